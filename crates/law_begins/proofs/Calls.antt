@@ -36,8 +36,8 @@ module _ (k : IntentKey) (plain : IsPlain k) (a : Store) (moment : ℕ) (first :
 
   keeps_rest : (c : Call) → KeepsCalls a Fresh c Quiet (Ends c)
   keeps_rest c = record {
-    wishes = λ found some h. h;
-    asks = λ file wish is some h. h;
+    wishes = λ found some h. inl h;
+    asks = λ file wish is some h. inl h;
     makes_new = λ kind policy path new is h. (
         let b = with_birth (with_id a) in
         let id = next_id a kind in

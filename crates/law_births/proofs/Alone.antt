@@ -34,6 +34,7 @@ use Rattle.law_births.proofs.Ends.{born_to, born_to-edge, ends, listed_born}
 use Rattle.law_births.proofs.Going.{along}
 use Rattle.law_births.proofs.Has.{Goes, Has, IsAlone, goes_itself, goes_then, has_given, has_one, to_has}
 use Rattle.law_births.proofs.Leaves.{births_go, stays_or_goes}
+use Rattle.law_births.proofs.Current.{current_of}
 use Rattle.law_births.proofs.Moving.{AnyWhy, EdgesMove, Moves, moves_itself}
 use Rattle.law_births.proofs.Pieces.{Shape, shape, shape_at}
 
@@ -305,11 +306,12 @@ module _ (n : ℕ) (fills : FillsAlwaysStand n) (free : NextIdsAreFree n) where
 
   -- LINKS NAME THE SENDER
   pub links_name_the_sender : LinksNameTheSender n
-  links_name_the_sender events e s packet ends y takes heard links current there =
+  links_name_the_sender events e s packet ends y takes heard links met there =
       let w = run n events in
       let t : Taking = record { server = s; asked = input.Arrival packet } in
       let b = (effect (w.stores s) (input.Arrival packet)).store in
       let is : (next n w e).stores s ≡ b =
       ap (λ (z : Step). z.stores s) (next_is n w e t takes) ∙ ap (λ u. cond u b (w.stores s)) (itself s) in
       listed_by b ends.file packet.from ends.sender y (sym (ap (λ (z : Store). replica_at z ends.file) is) ∙ there)
-      (arrival_lists (w.stores s) (alone_always events s) packet ends heard links current)
+      (arrival_lists (w.stores s) (alone_always events s) packet ends heard links
+      (current_of (w.stores s) packet.from ends met))

@@ -33,8 +33,8 @@ module _ (file : FileId) (birth peer : ℕ) (a : Store) (work : Work) where
 
   keeps_same : (c : Call) → KeepsCalls a work c Keeps (λ (d : Done). Rests c d.store)
   keeps_same c = record {
-    wishes = λ found some k. k;
-    asks = λ f wish is some k. k;
+    wishes = λ found some k. inl k;
+    asks = λ f wish is some k. inl k;
     makes_new = λ kind policy path new is k. (
         let id = next_id a kind in
         begin_same file birth peer (with_birth (with_id a)) id (draw_birth (with_id a)) policy (blank_own id) true ∙ k);

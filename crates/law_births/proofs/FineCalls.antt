@@ -1,69 +1,62 @@
 -- What is said of births and flags is said behind each call.
-use Rattle.std.proofs.Common.{ℕ, ◌≡◌, ◌==◌, Bool, true, false, cond, Option, None, Some, Result, Ok, Err, refl, sym, ap, subst, ◌∙◌}
-use Rattle.std.proofs.lemmas.Bool.{and_parts, eqb-true}
-use Rattle.std.proofs.lemmas.List.Elements.{All-nil, All-push}
+use Rattle.std.proofs.Common.{ℕ, ◌≡◌, Bool, true, false, not, List, [], ◌∷◌, Option, None, Some, All, refl, sym, subst, ◌∙◌}
+use Rattle.std.specs.Map.{keys_of}
+use Rattle.std.proofs.lemmas.Bool.{and_parts}
+use Rattle.std.proofs.lemmas.List.Elements.{All-nil}
 use Rattle.law_order.specs.pg_base.declared.id.FileId.{FileId}
-use Rattle.law_order.specs.pg_base.declared.id.Kind.TheVariants.{Dir, File}
 use Rattle.law_order.specs.pg_base.declared.policy.Policy.{Policy}
-use Rattle.law_order.specs.pg_base.declared.stamp.Stamp.{Stamp}
 use Rattle.law_order.specs.pg_base.declared.policy.Policy.TheVariants.{Last}
-use Rattle.law_order.specs.pg_patch.Ranges.{RangesValue, cut_to, written}
+use Rattle.law_order.specs.pg_patch.Ranges.{RangesValue}
 use Rattle.law_order.specs.pg_call.declared.call.Call.{Call}
-use Rattle.law_order.specs.pg_call.declared.call.Call.TheVariants as call
-use Rattle.law_order.specs.pg_call.declared.reply.Reply.{Reply}
-use Rattle.law_order.specs.pg_call.declared.reply.Reply.TheVariants as reply
-use Rattle.law_order.specs.pg_call.declared.refusal.Refusal.TheVariants.{ManyActors, NotYet, TooLong}
+use Rattle.law_order.specs.pg_edges.declared.edge.Edge.{Edge}
+use Rattle.law_order.specs.pg_intent.declared.key.IntentKey.TheVariants as intent_key
 use Rattle.law_order.specs.pg_msg.declared.message.Message.TheVariants as message
 use Rattle.law_order.specs.pg_msg.declared.update.Update.TheVariants as update
 use Rattle.law_order.specs.pg_msg.declared.work.Work.{Work}
 use Rattle.law_order.specs.pg_msg.Work.{with_made}
-use Rattle.law_order.specs.pg_names.Names.{blank_own, known, own_or_blank}
+use Rattle.law_order.specs.pg_names.declared.attributes.Attributes.{Attributes}
+use Rattle.law_order.specs.pg_names.Names.{blank_own, fill as fill_names, own_at}
 use Rattle.law_order.specs.pg_register.declared.flag.Flag.{Flag}
 use Rattle.law_order.specs.pg_register.declared.place.Place.{Place}
-use Rattle.law_order.specs.pg_register.Flag.{flag_of, is_raised_with}
-use Rattle.law_order.specs.pg_replica.Replica.{has_many_actors, is_too_long}
-use Rattle.law_order.specs.pg_lookup.declared.paths.Found.{Found}
-use Rattle.law_order.specs.pg_lookup.declared.paths.LookupError.{LookupError}
-use Rattle.law_order.specs.pg_lookup.declared.paths.LookupError.TheVariants as stop
 use Rattle.law_order.specs.pg_store.declared.store.Store.{Store}
 use Rattle.law_order.specs.pg_store.declared.wishes.Wish.{Wish}
 use Rattle.law_order.specs.pg_store.Beginning.{begin}
-use Rattle.law_order.specs.pg_store.Births.{birth_of, draw_birth, with_birth, with_wish}
-use Rattle.law_order.specs.pg_store.Store.{is_full, replica_of}
-use Rattle.law_order.specs.pg_store.Together.{AreTogether, birth_at}
+use Rattle.law_order.specs.pg_store.Births.{draw_birth, with_birth, with_wish}
+use Rattle.law_order.specs.pg_store.Store.{is_full, is_held, replica_at, with_names}
+use Rattle.law_order.specs.pg_store.Together.{AreTogether, HoldsAsBefore, birth_at}
+use Rattle.law_order.specs.pg_store.Views.{enter}
+use Rattle.law_order.proofs.pg_store.Entering.{enter_together}
+use Rattle.law_order.proofs.pg_store.Pairs.{begin_together, together_as_before}
+use Rattle.law_order.specs.pg_pieces.Accepting.{ends_to}
 use Rattle.law_order.specs.pg_pieces.Done.{Done, idle}
-use Rattle.law_order.specs.pg_pieces.Making.{lower_flag, own_next, raise_flag}
-use Rattle.law_order.specs.pg_pieces.Posting.{post, sent_to}
-use Rattle.law_order.specs.pg_checks.Answer.{Answer, answer, answered, replied, told, unless}
-use Rattle.law_order.specs.pg_checks.Asking.{ask_by, ask_first, ask_for, fetch, fresh_wish, holder, standing}
-use Rattle.law_order.specs.pg_calls.Bodies.{change_file, shown_part, when_fit}
+use Rattle.law_order.specs.pg_pieces.Making.{make_flag, own_next}
+use Rattle.law_order.specs.pg_pieces.Taking.{take_entry_noted}
+use Rattle.law_order.specs.pg_graph.Walks.{edges_of}
+use Rattle.law_order.specs.pg_intentions.Seeks.{matches}
+use Rattle.law_order.specs.pg_intentions.Inviting.{first_loose, invite_along, invite_each, invite_of, invites, loose_edge}
+use Rattle.law_order.specs.pg_checks.Asking.{fresh_wish, holder, standing}
 use Rattle.law_order.specs.pg_calls.Calls.{do_call}
-use Rattle.law_order.specs.pg_checks.Checks.{dir_at, empty_dir_at, file_at, in_time, move_of, new_name, target_at}
-use Rattle.law_order.specs.pg_pieces.Golds.{is_gold}
-use Rattle.law_order.specs.pg_calls.Demoting.{demoted_at, lowered}
-use Rattle.law_order.specs.pg_calls.Dropping.{clean_gold, dropped_at, leave_of, leaving}
-use Rattle.law_order.specs.pg_calls.Forgetting.{forget_lost, lost_at}
-use Rattle.law_order.specs.pg_calls.GivingUp.{enter_view, removal_at}
-use Rattle.law_order.specs.pg_calls.Looks.{counts, listing, page, stat_of}
-use Rattle.law_order.specs.pg_calls.Making.{drawn, first_ranges, make_place, make_version}
-use Rattle.law_order.specs.pg_calls.Naming.{dead_place, moved, next_id, place_in, taken_away, with_first_version, with_id, with_thing}
-use Rattle.law_order.specs.pg_checks.declared.checks.Move.{Move}
-use Rattle.law_order.specs.pg_checks.declared.checks.NewName.{NewName}
-use Rattle.law_order.proofs.pg_calls.Missing.{IsMissing, demoted_missing, dir_missing, dropped_missing, empty_missing, file_missing, lost_missing, move_missing, name_missing, removal_missing, target_missing}
-use Rattle.law_order.proofs.pg_checks.Stopping.{StopsAt, stops_then, stops_time, stops_unless}
-use Rattle.law_order.proofs.theory_flood_pieces.Choices.{chosen, decided}
-use Rattle.law_order.proofs.theory_flood_pieces.Flags.{server_of}
-use Rattle.law_births.specs.Flags.{SaysStore}
-use Rattle.law_births.proofs.EndsSay.{ends_begin, ends_stay}
-use Rattle.law_births.proofs.Here.{born_here}
-use Rattle.law_births.proofs.Joined.{found_says}
-use Rattle.law_births.proofs.Pieces.{flag_stays, place_stays, write_stays}
-use Rattle.law_births.proofs.Mails.{OfBirths, Owed, SaysSent}
+use Rattle.law_order.specs.pg_calls.Dropping.{leave_of}
+use Rattle.law_order.specs.pg_calls.Forgetting.{bare_entry, dead_at, last_place, unfilled, unwished}
+use Rattle.law_order.specs.pg_calls.GivingUp.{doubt_all, enter_view}
+use Rattle.law_order.specs.pg_calls.Making.{drawn, make_place, make_version}
+use Rattle.law_order.specs.pg_calls.Naming.{next_id, with_id}
+use Rattle.law_order.specs.pg_server.Local.{done_of}
+use Rattle.law_order.proofs.pg_calls.Walked.{full_held}
+use Rattle.law_order.proofs.pg_run.Still.{same_mail}
+use Rattle.law_order.proofs.theory_flood_pieces.Choices.{decided}
+use Rattle.law_order.proofs.law_frame.Called.{call_keeps}
+use Rattle.law_order.proofs.law_frame.KeepsCalls.{KeepsCalls, lost_own}
+use Rattle.law_births.proofs.EndsSay.{SaysEnds, ends_begin, ends_stay}
+use Rattle.law_births.proofs.EnterSays.{ends_enter, find_has, say_enter}
+use Rattle.law_births.proofs.Here.{birth_is, birth_of_held}
+use Rattle.law_births.proofs.Mails.{OfBirths, Owed}
 use Rattle.law_births.proofs.Parting.{said_begun}
-use Rattle.law_births.proofs.Saying.{IsSaid, said_on, said_place}
-use Rattle.law_births.proofs.StoreSays.{own_says, say_begin, say_write}
-use Rattle.law_births.proofs.Raising.{fine_flag, fine_raise}
-use Rattle.law_births.proofs.FineLosses.{entered_fine, forgotten_fine}
+use Rattle.law_births.proofs.Pieces.{entry_stays, fill_stays, flag_stays, place_stays, write_stays}
+use Rattle.law_births.proofs.Raising.{fine_flag}
+use Rattle.law_births.proofs.Saying.{IsSaid, own_named, said_entry, said_last, said_on, said_place, said_post}
+use Rattle.law_births.proofs.StoreSays.{say_begin, say_ended, say_fill, say_write}
+use Rattle.law_births.proofs.Walking.{edges_named}
 
 module _ (P : FileId → ℕ → ℕ → Type 0) (G : FileId → ℕ → Type 0) (s from : ℕ) where
   abbrev Q : FileId → Flag → Type 0
@@ -72,189 +65,166 @@ module _ (P : FileId → ℕ → ℕ → Type 0) (G : FileId → ℕ → Type 0)
   abbrev Fine : Done → Type 0
   Fine d = IsSaid P (OfBirths P) G s from d
 
-  -- ---- calls
-
-  -- what is gold has a flag, of a birth that was given out
-  gold_by : (b : Store) (f : FileId) (o : Option Flag) → flag_of (own_or_blank b.names f).flags b.names.server ≡ o
-      → is_raised_with o (birth_of b f) ≡ true → SaysStore Q (Owed P G s) s b → P f s (birth_of b f)
-  gold_by b f None there gold k = absurd (let z : false ≡ true = gold in cc)
-  gold_by b f (Some g) there gold k =
-      let fs = (own_or_blank b.names f).flags in
-      let server : g.server ≡ s = server_of fs b.names.server g there ∙ k.names.server in
-      let birth = eqb-true g.birth (birth_of b f) (and_parts g.raised (g.birth == birth_of b f) gold).1 in
-      let one : P f g.server g.birth = found_says (Q f) fs b.names.server g (own_says Q (Owed P G s) s b f k) there in
-      let R : ℕ → Type 0 = λ z. P f z g.birth in
-      subst (P f s) birth (subst R server one)
-
-  fine_lowered : (b : Store) (f : FileId) (w : Work) → Fine (idle b w) → Fine (lowered b f w)
-  fine_lowered b f w k =
-      decided Fine (is_gold b f) (lower_flag b f w) (idle b w)
-      (λ gold. fine_flag P G s from b f false w k (gold_by b f (flag_of (own_or_blank b.names f).flags b.names.server) refl gold k.store))
-      (λ bronze. k)
+  -- what a server holds has births that were given out
+  abbrev Givens : Store → Type 0
+  Givens b = (f : FileId) (n : ℕ) → birth_at b f ≡ Some n → P f s n
 
   -- what is known of the births that a call gives out: of the replica that it begins, and of the
   -- wish that it leaves
-  pub record Allows (a : Store) (left : Answer) : Type 0 where
-    pub born : (f : FileId) (n : ℕ) → birth_at left.store f ≡ Some n → P f s n
-    pub fresh : (f : FileId) (t : ℕ) → left.store ≡ with_wish (with_birth a) f (fresh_wish a t) → standing a f ≡ None
+  pub record Allows (a b : Store) : Type 0 where
+    pub born : (f : FileId) (n : ℕ) → birth_at b f ≡ Some n → P f s n
+    pub fresh : (f : FileId) (t : ℕ) → b ≡ with_wish (with_birth a) f (fresh_wish a t) → standing a f ≡ None
         → is_full a f ≡ false → P f s (draw_birth a)
 
+  -- ---- pieces
+
+  place_fine : (d : Done) (file : FileId) (place : Place) → Fine d → Fine (make_place file place d)
+  place_fine d file place k =
+      let v = with_made d.work (update.Place file place) in
+      said_place P Q G s from d.store file place v (said_on P Q G s from d (idle d.store v) k k.store k.edges (record { sent = refl; tail = refl; from = refl }))
+
+  flag_fine : (d : Done) (file : FileId) (raised : Bool) → AreTogether d.store → Givens d.store → Fine d
+      → Fine (make_flag d.store file (own_next d.store file raised) d.work)
+  flag_fine d file raised both born k =
+      fine_flag P G s from d.store file raised d.work k (λ held.
+      let n = birth_of_held d.store both file held in
+      subst (P file s) (sym (birth_is d.store file n.0 n.1)) (born file n.0 n.1))
+
+  write_fine : (d : Done) (file : FileId) (ranges : RangesValue) → Fine d → Fine (make_version file (drawn d.store d.work.now) ranges d)
+  write_fine d file ranges k =
+      let stamp = drawn d.store d.work.now in
+      said_on P Q G s from d (make_version file stamp ranges d) k (say_write Q (Owed P G s) s d.store file stamp ranges k.store)
+      (ends_stay P (write_stays d.store file stamp ranges) k.edges) (record { sent = refl; tail = refl; from = refl })
+
+  fill_fine : (d : Done) (file : FileId) → Fine d → Fine (idle (with_names d.store (fill_names d.store.names file)) d.work)
+  fill_fine d file k =
+      said_on P Q G s from d (idle (with_names d.store (fill_names d.store.names file)) d.work) k (say_fill Q (Owed P G s) s d.store file k.store)
+      (ends_stay P (fill_stays d.store file) k.edges) (same_mail d.work)
+
+  begun_fine : (b : Store) (w : Work) → Fine (idle b w) → (id : FileId) (policy : Policy) (own : Attributes) → All (Q id) own.flags
+      → Fine (idle (begin (with_birth b) id (draw_birth b) policy own true) w)
+  begun_fine b w k id policy own all =
+      let e = with_birth b in
+      let birth = draw_birth b in
+      said_on P Q G s from (idle b w) (idle (begin e id birth policy own true) w) k
+      (say_begin Q (Owed P G s) s e id birth policy own true all (record { names = k.store.names; intents = k.store.intents }))
+      (ends_begin P e id birth policy own true k.edges) (same_mail w)
+
+  -- what begins anew has no flag
+  no_flags : (id : FileId) (o : Option Place) → All (Q id) (lost_own id o).flags
+  no_flags id None = All-nil (Q id)
+  no_flags id (Some place) = All-nil (Q id)
+
+  module _ (a : Store) (w : Work) (k : Fine (idle a w)) (both : AreTogether a) where
+    -- ---- a server is removed
+
+    module _ (server : ℕ) (born : Givens (enter a server)) where
+      abbrev b : Store
+      b = enter a server
+
+      edges_b : SaysEnds P b
+      edges_b = ends_enter P a server both k.edges
+
+      both_b : AreTogether b
+      both_b = enter_together a server both
+
+      loose_in : (file : FileId) (o : Option Attributes) (e : Edge) → first_loose b.names.removed o (edges_of b file) ≡ Some e → P file e.peer e.birth
+      loose_in file None e is = absurd (let z : ◌≡◌ {A = Option Edge} None (Some e) = is in cc)
+      loose_in file (Some own) e is =
+          find_has (λ (x : Edge). P file x.peer x.birth) (λ x. not (matches b.names.removed own.flags x)) (edges_of b file) e
+          (edges_named P Q G s from b file (replica_at b file) refl edges_b) is
+
+      along_fine : (file : FileId) (o : Option Edge) (v : Work) → is_held b file ≡ true → ((e : Edge) → o ≡ Some e → P file e.peer e.birth)
+          → Fine (idle b v) → Fine (idle b (invite_along b file o v))
+      along_fine file None v held named h = h
+      along_fine file (Some e) v held named h =
+          said_last P Q G s from b e.peer (message.Invite (ends_to b file e.birth)) v
+          (own_named P Q G s from b file born (birth_of_held b both_b file held), named e refl) tt h
+
+      invite_fine : (file : FileId) (v : Work) → Fine (idle b v) → Fine (idle b (invite_of b file v))
+      invite_fine file v h =
+          decided (λ (x : Work). Fine (idle b x)) (invites b file) (invite_along b file (loose_edge b file) v) v
+          (λ t. along_fine file (loose_edge b file) v (full_held b.names file (and_parts (is_full b file) _ t).0)
+          (λ e is. loose_in file (own_at b.names file) e is) h)
+          (λ f. h)
+
+      invites_fine : (files : List FileId) (v : Work) → Fine (idle b v) → Fine (idle b (invite_each b files v))
+      invites_fine [] v h = h
+      invites_fine (file ∷ files) v h = invites_fine files (invite_of b file v) (invite_fine file v h)
+
+      entered_fine : Fine (enter_view a server w)
+      entered_fine =
+          invites_fine (keys_of b.names.held) (doubt_all b w)
+          (said_on P Q G s from (idle a w) (idle b (doubt_all b w)) k (say_enter Q (Owed P G s) s server a k.store) edges_b
+          (record { sent = refl; tail = refl; from = refl }))
+
+  -- ---- calls
+
   module _ (a : Store) (w : Work) (k : Fine (idle a w)) (both : AreTogether a) (stood : (f : FileId) (wish : Wish) → standing a f ≡ Some wish → P f s wish.birth) where
-    abbrev Leaves : Answer → Type 0
-    Leaves left = Fine (record { store = left.store; work = left.work })
+    -- it is said, once the births that are held then were given out
+    abbrev IsFine : Done → Type 0
+    IsFine d = AreTogether d.store × (Givens d.store → Fine d)
 
-    fetched : (b : Store) (f : FileId) (wish : Wish) → Fine (idle b w) → b.names.server ≡ a.names.server → P f s wish.birth
-        → Fine (idle b (fetch a f wish w))
-    fetched b f wish h server one =
-        chosen (λ (v : Work). Fine (idle b v)) (wish.target == 0) w (post a wish.target (message.Fetch f wish.birth) w) h
-        (record {
-          store = h.store;
-          edges = h.edges;
-          sent = All-push (SaysSent P Q G s) w.sent (sent_to a wish.target (message.Fetch f wish.birth)) h.sent (one, (tt, sym server ∙ h.store.names.server));
-          tail = h.tail;
-          asker = h.asker;
-        })
+    abbrev IsLeft : Done → Type 0
+    IsLeft d = Allows a d.store → Fine d
 
-    fresh_fine : (f : FileId) (t : ℕ) → Fine (idle (with_wish (with_birth a) f (fresh_wish a t)) w)
-    fresh_fine f t = record { store = record { names = k.store.names; intents = k.store.intents }; edges = k.edges; sent = k.sent; tail = k.tail; asker = k.asker }
+    on : (d e : Done) → HoldsAsBefore d.store e.store → (AreTogether d.store → Givens d.store → Fine d → Fine e) → IsFine d → IsFine e
+    on d e same goes h = (
+      together_as_before d.store e.store same h.0,
+      λ born. (
+          let earlier = λ (f : FileId) (n : ℕ) (there : birth_at d.store f ≡ Some n). born f n (same.births f ∙ there) in
+          goes h.0 earlier (h.1 earlier)),
+    )
 
-    asked_first : (f : FileId) (t : ℕ) (zero_is : Bool) → (t == 0) ≡ zero_is
-        → ((ask_first a f t w).store ≡ with_wish (with_birth a) f (fresh_wish a t) → P f s (draw_birth a))
-        → Fine (cond zero_is (idle a w) (idle (with_wish (with_birth a) f (fresh_wish a t)) (fetch a f (fresh_wish a t) w)))
-    asked_first f t true is fresh = k
-    asked_first f t false is fresh =
-        fetched (with_wish (with_birth a) f (fresh_wish a t)) f (fresh_wish a t) (fresh_fine f t) refl
-        (fresh (ap (λ z. (cond z (idle a w) (idle (with_wish (with_birth a) f (fresh_wish a t)) (fetch a f (fresh_wish a t) w))).store) is))
+    begun : (b : Store) → Fine (idle b w) → AreTogether b → (id : FileId) (policy : Policy) (own : Attributes) → All (Q id) own.flags
+        → IsFine (idle (begin (with_birth b) id (draw_birth b) policy own true) w)
+    begun b h pairs id policy own all =
+        (begin_together (with_birth b) id (draw_birth b) policy own true pairs, λ born. begun_fine b w h id policy own all)
 
-    asked_by : (found : Found) (o : Option Wish) → standing a found.file ≡ o
-        → ((t : ℕ) → (ask_by a found o w).store ≡ with_wish (with_birth a) found.file (fresh_wish a t) → P found.file s (draw_birth a))
-        → Fine (ask_by a found o w)
-    asked_by found None none fresh =
-        asked_first found.file (holder a found) (holder a found == 0) refl (fresh (holder a found))
-    asked_by found (Some wish) some fresh = fetched a found.file wish k refl (stood found.file wish some)
-
-    denied : (found : Found) → IsMissing a.names found → (r : Reply) → Allows a (answer (ask_for a found w) r) → Leaves (answer (ask_for a found w) r)
-    denied found missing r allows =
-        denied_by (standing a found.file) refl
-      where
-        denied_by : (o : Option Wish) → standing a found.file ≡ o → Fine (ask_by a found (standing a found.file) w)
-        denied_by None none =
-            let same : ask_by a found None w ≡ ask_by a found (standing a found.file) w = ap (λ (o : Option Wish). ask_by a found o w) (sym none) in
-            subst Fine same (asked_by found None none (λ t e. allows.fresh found.file t (ap (λ (d : Done). d.store) (sym same) ∙ e) none missing))
-        denied_by (Some wish) some =
-            let same : ask_by a found (Some wish) w ≡ ask_by a found (standing a found.file) w = ap (λ (o : Option Wish). ask_by a found o w) (sym some) in
-            subst Fine same (fetched a found.file wish k refl (stood found.file wish some))
-
-    goes_on : {A : Type 0} (check : Result A LookupError) (next : A → Answer) → StopsAt (IsMissing a.names) check
-        → Allows a (answered a w check next) → ((x : A) → check ≡ Ok x → Allows a (next x) → Leaves (next x)) → Leaves (answered a w check next)
-    goes_on (Err (stop.Refused why)) next missing allows each = k
-    goes_on (Err (stop.NotYet found)) next missing allows each = denied found missing (reply.Refused (NotYet found.file)) allows
-    goes_on (Ok x) next missing allows each = each x refl allows
-
-    looks : {A : Type 0} (check : Result A LookupError) (tell : A → Reply) → StopsAt (IsMissing a.names) check
-        → Allows a (replied a w check tell) → Leaves (replied a w check tell)
-    looks check tell missing allows = goes_on check (λ x. told a w (tell x)) missing allows (λ x is m. k)
-
-    -- a new thing
-    thing_fine : (id : FileId) (policy : Policy) (new : NewName)
-        → ((f : FileId) (n : ℕ) → birth_at (with_thing (with_id a) w id policy new).store f ≡ Some n → P f s n)
-        → Fine (with_thing (with_id a) w id policy new)
-    thing_fine id policy new born =
-        let b = with_id a in
-        let own = blank_own id in
-        let c = begin (with_birth b) id (draw_birth b) policy own true in
-        let place = place_in b w.now new in
-        let v = with_made w (update.Place id place) in
-        let none : Fine (idle (with_birth b) w) = record { store = record { names = k.store.names; intents = k.store.intents }; edges = k.edges; sent = k.sent; tail = k.tail; asker = k.asker } in
-        let to_c : Fine (idle c v) = said_on P Q G s from (idle (with_birth b) w) (idle c v) none
-        (say_begin Q (Owed P G s) s (with_birth b) id (draw_birth b) policy own true (All-nil (Q id)) none.store)
-        (ends_begin P (with_birth b) id (draw_birth b) policy own true none.edges) (record { sent = refl; tail = refl; from = refl }) in
-        let d = make_place id place (idle c w) in
-        let to_d = said_place P Q G s from c id place v to_c in
-        let here : birth_at d.store id ≡ Some (draw_birth b) =
-        (place_stays c id place).before.births id ∙ born_here (with_birth b) id (draw_birth b) policy own true in
-        let there : birth_at (raise_flag d.store id d.work).store id ≡ Some (draw_birth b) =
-        (flag_stays d.store id (own_next d.store id true)).before.births id ∙ here in
-        fine_raise P G s from d.store id (draw_birth b) d.work to_d here (born id (draw_birth b) there)
-
-    fine_write : (b : Store) (f : FileId) (stamp : Stamp) (ranges : RangesValue) (v : Work) → Fine (idle b v) → Fine (make_version f stamp ranges (idle b v))
-    fine_write b f stamp ranges v h =
-        said_on P Q G s from (idle b v) (make_version f stamp ranges (idle b v)) h (say_write Q (Owed P G s) s b f stamp ranges h.store)
-        (ends_stay P (write_stays b f stamp ranges) h.edges) (record { sent = refl; tail = refl; from = refl })
-
-    fine_place : (f : FileId) (place : Place) → Fine (make_place f place (idle a w))
-    fine_place f place =
-        let v = with_made w (update.Place f place) in
-        said_place P Q G s from a f place v (said_on P Q G s from (idle a w) (idle a v) k k.store k.edges (record { sent = refl; tail = refl; from = refl }))
-
-    fits_missing : (ranges : RangesValue) (file : FileId) → StopsAt (IsMissing a.names) (when_fit a ranges file)
-    fits_missing ranges file =
-        stops_then (IsMissing a.names) (unless (is_too_long (replica_of a file) ranges) TooLong file)
-        (λ (fit : FileId). unless (has_many_actors (replica_of a fit) a.names.server) ManyActors fit)
-        (stops_unless (IsMissing a.names) (is_too_long (replica_of a file) ranges) TooLong file refl)
-        (λ fit. stops_unless (IsMissing a.names) (has_many_actors (replica_of a fit) a.names.server) ManyActors fit refl)
-
-    change_fine : (ranges : RangesValue) (file : FileId) → Allows a (change_file a ranges w file) → Leaves (change_file a ranges w file)
-    change_fine ranges file allows =
-        goes_on (when_fit a ranges file)
-        (λ (fit : FileId). answer (make_version fit (drawn a w.now) ranges (idle a w)) (reply.Wrote (drawn a w.now)))
-        (fits_missing ranges file) allows (λ fit is m. fine_write a fit (drawn a w.now) ranges w k)
-
-    timed_missing : StopsAt (IsMissing a.names) (in_time a (tt {0}))
-    timed_missing = stops_time (IsMissing a.names) a (tt {0})
-
-    timed : (tell : Unit {0} → Reply) → Allows a (replied a w (in_time a (tt {0})) tell) → Leaves (replied a w (in_time a (tt {0})) tell)
-    timed tell allows = looks (in_time a (tt {0})) tell timed_missing allows
-
-    left_fine : (file : FileId) (o : Option Flag) → Leaves (leaving a file w o)
-    left_fine file None = k
-    left_fine file (Some flag) = said_begun P Q G s from (idle a w) (leave_of file flag) tt k
+    keeps_fine : (c : Call) → KeepsCalls a w c IsFine IsLeft
+    keeps_fine c = record {
+      wishes = λ found is h allows. (
+          let f = found.file in
+          let t = holder a found in
+          said_post P Q G s from (with_wish (with_birth a) f (fresh_wish a t)) t (message.Fetch f (draw_birth a)) w (allows.fresh f t refl is.none is.missing) tt
+          (said_on P Q G s from (idle a w) (idle (with_wish (with_birth a) f (fresh_wish a t)) w) k (record { names = k.store.names; intents = k.store.intents })
+          k.edges (same_mail w)));
+      asks = λ file wish is some h allows. said_post P Q G s from a wish.target (message.Fetch file wish.birth) w (stood file wish is) tt k;
+      makes_new = λ kind policy path new is h. (
+          let b = with_id a in
+          let id = next_id a kind in
+          begun b (said_on P Q G s from (idle a w) (idle b w) k (record { names = k.store.names; intents = k.store.intents }) k.edges (same_mail w))
+          both id policy (blank_own id) (All-nil (Q id)));
+      makes_place = λ d file place is h. on d (make_place file place d) (place_stays d.store file place).before (λ pairs born so. place_fine d file place so) h;
+      makes_flag = λ d file raised is h. (
+          let flag = own_next d.store file raised in
+          on d (make_flag d.store file flag d.work) (flag_stays d.store file flag).before (flag_fine d file raised) h);
+      makes_version = λ d file ranges is h. (
+          let stamp = drawn d.store d.work.now in
+          on d (make_version file stamp ranges d) (write_stays d.store file stamp ranges).before (λ pairs born so. write_fine d file ranges so) h);
+      begins_leave = λ file flag is h. (both, λ born. said_begun P Q G s from (idle a w) (leave_of file flag) tt k);
+      fills = λ d id is h. (
+          let b = with_names d.store (fill_names d.store.names id) in
+          on d (idle b d.work) (fill_stays d.store id).before (λ pairs born so. fill_fine d id so) h);
+      strikes = λ id dir is h. (
+        both,
+        λ born. (
+            let v = with_made w (update.Place id (dead_at a w.now id dir)) in
+            said_on P Q G s from (idle a w) (idle (unwished a id) v) k (record { names = k.store.names; intents = k.store.intents }) k.edges
+            (record { sent = refl; tail = refl; from = refl })),
+      );
+      marks = λ d id dir to is h. (
+          let e = bare_entry id (dead_at a w.now id dir) in
+          on d (take_entry_noted d.store to e d.work) (entry_stays d.store to e).before
+          (λ pairs born so. said_entry P Q G s from d.store to e d.work (All-nil (Q id)) so) h);
+      begins_lost = λ id own is away h. (
+          let b = unfilled a id in
+          begun b (said_on P Q G s from (idle a w) (idle b w) k (say_ended Q (Owed P G s) s a (intent_key.Fill id) k.store) k.edges (same_mail w)) both id Last own
+          (subst (λ (o : Attributes). All (Q id) o.flags) (sym is.is) (no_flags id (last_place a.names id))));
+      enters = λ view server is found h allows. entered_fine a w k both server allows.born;
+      leaves = λ d h allows. h.1 allows.born;
+    }
 
     -- ANY CALL
-    pub fine_call : (c : Call) → Allows a (do_call a c w) → Leaves (do_call a c w)
-    fine_call (call.Mkdir path) m =
-        let id = next_id a Dir in
-        goes_on (new_name a id path) (λ (new : NewName). answer (with_thing (with_id a) w id Last new) (reply.Made id))
-        (name_missing a id path) m (λ new is h. thing_fine id Last new h.born)
-    fine_call (call.Create path policy) m =
-        let id = next_id a File in
-        goes_on (new_name a id path)
-        (λ (new : NewName). answer (with_first_version id (with_thing (with_id a) w id policy new)) (reply.Made id))
-        (name_missing a id path) m (λ new is h. (
-        let d = with_thing (with_id a) w id policy new in
-        let stamp = drawn d.store d.work.now in
-        fine_write d.store id stamp first_ranges d.work (thing_fine id policy new (λ f n there.
-        h.born f n ((write_stays d.store id stamp first_ranges).before.births f ∙ there)))))
-    fine_call (call.Write path offset bytes) m =
-        goes_on (file_at a path) (change_file a (written offset bytes) w) (file_missing a path) m (λ file is h. change_fine (written offset bytes) file h)
-    fine_call (call.Cut path length) m =
-        goes_on (file_at a path) (change_file a (cut_to length) w) (file_missing a path) m (λ file is h. change_fine (cut_to length) file h)
-    fine_call (call.Read path offset count) m =
-        looks (file_at a path) (λ (file : FileId). reply.Bytes (shown_part a file offset count)) (file_missing a path) m
-    fine_call (call.Fresh path) m = looks (file_at a path) _ (file_missing a path) m
-    fine_call (call.Ls path at) m =
-        looks (dir_at a path) (λ (dir : FileId). page (listing dir (known a.names dir)) at) (dir_missing a path) m
-    fine_call (call.Stat target) m = looks (target_at a target) (λ (file : FileId). reply.Stat (stat_of a file)) (target_missing a target) m
-    fine_call (call.Rename old new) m =
-        goes_on (move_of a old new) (λ (move : Move). answer (moved a w move) reply.Done) (move_missing a old new) m
-        (λ move is h. fine_place move.thing (place_in a w.now move.to))
-    fine_call (call.Unlink path) m =
-        goes_on (file_at a path) (λ (file : FileId). answer (taken_away a w file) reply.Done) (file_missing a path) m
-        (λ file is h. fine_place file (dead_place a w.now file))
-    fine_call (call.Rmdir path) m =
-        goes_on (empty_dir_at a path) (λ (dir : FileId). answer (taken_away a w dir) reply.Done) (empty_missing a path) m
-        (λ dir is h. fine_place dir (dead_place a w.now dir))
-    fine_call (call.Forget id) m =
-        goes_on (lost_at a id) (λ (found : FileId). answer (forget_lost a found w) reply.Done) (lost_missing a id) m
-        (λ found is h. forgotten_fine P G s from a w k both found h.born)
-    fine_call (call.Demote target) m =
-        goes_on (demoted_at a target) (λ (file : FileId). answer (lowered a file w) reply.Done) (demoted_missing a target) m
-        (λ file is h. fine_lowered a file w k)
-    fine_call (call.Drop target) m =
-        goes_on (dropped_at a target) (λ (file : FileId). leaving a file w (clean_gold a file)) (dropped_missing a target) m
-        (λ file is h. left_fine file (clean_gold a file))
-    fine_call (call.Giveup view server) m =
-        goes_on (removal_at a view server) (λ found. answer (enter_view a server w) reply.Done) (removal_missing a view server) m
-        (λ found is h. entered_fine P G s from a w k both server h.born)
-    fine_call call.Status m = timed (λ found. reply.Status (counts a)) m
-    fine_call call.Stop m = timed (λ found. reply.Done) m
+    pub fine_call : (c : Call) → Allows a (do_call a c w).store → Fine (done_of (do_call a c w))
+    fine_call c = call_keeps a w IsFine IsLeft c (keeps_fine c) (both, λ born. k)

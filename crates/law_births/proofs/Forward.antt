@@ -1,15 +1,16 @@
 -- A birth that is to come when an event ends its first effect is there, or is to come, when the
 -- event ends.
-use Rattle.std.proofs.Common.{ℕ, ◌≡◌, ◌⊎◌, Bool, true, false, cond, not, List, [], ◌∷◌, Option, None, Some, is_some, inl, inr, refl, sym, ap, ◌∙◌, length, drop}
+use Rattle.std.proofs.Common.{ℕ, ◌≡◌, ◌⊎◌, Bool, true, false, cond, not, List, [], ◌∷◌, Option, None, Some, inl, inr, refl, sym, ap, ◌∙◌, length, drop}
 use Rattle.law_order.specs.pg_base.declared.id.FileId.{FileId}
 use Rattle.law_order.specs.pg_base.Id.{is_same_file}
 use Rattle.law_order.proofs.pg_base.Orders.{is_same_file-refl, is_same_file-true}
 use Rattle.law_order.specs.pg_intent.declared.intent.Intent.{Intent}
 use Rattle.law_order.specs.pg_intent.declared.intent.Intent.TheVariants as intent
 use Rattle.law_order.specs.pg_intent.declared.key.IntentKey.TheVariants as intent_key
+use Rattle.law_order.specs.pg_intent.Intent.{key_of}
 use Rattle.law_order.specs.pg_intent.Intents.{begun_on}
+use Rattle.law_order.specs.pg_intent.Key.{is_same_key}
 use Rattle.law_order.proofs.pg_intent.Found.{aimed_found}
-use Rattle.law_order.specs.pg_msg.declared.work.Slot.{Slot}
 use Rattle.law_order.specs.pg_msg.declared.work.Touched.{Touched}
 use Rattle.law_order.specs.pg_msg.declared.work.Work.{Work}
 use Rattle.law_order.specs.pg_register.declared.flag.Flag.{Flag}
@@ -27,14 +28,15 @@ use Rattle.law_order.specs.pg_pieces.Done.{Done, idle}
 use Rattle.law_order.specs.pg_pieces.Making.{own_next}
 use Rattle.law_order.specs.pg_cells.Settling.{rules, settle, touch_all}
 use Rattle.law_order.proofs.pg_cells.Settled.{settle_keeps}
-use Rattle.law_order.specs.pg_intentions.Beginning.{begin_end, end_others}
-use Rattle.law_order.specs.pg_intentions.Confirms.{begin_confirm, confirm_of, is_doubtful}
-use Rattle.law_order.specs.pg_intentions.Fills.{begin_fill, begin_fills, fill_of, files_to_fill, to_fill, with_fill_birth, wished_birth, without_wished}
-use Rattle.law_order.specs.pg_intentions.Intending.{begin_intent, each, in_order}
-use Rattle.law_order.specs.pg_intentions.Patches.{begin_patch, begin_patches, patch_of}
-use Rattle.law_order.specs.pg_intentions.Seeks.{aim_seek, begin_seek, begin_seeks, has_seek, seek_again, seek_target, to_seek, was_linked}
+use Rattle.law_order.specs.pg_intentions.Beginning.{begin_end}
+use Rattle.law_order.specs.pg_intentions.Confirms.{confirm_of}
+use Rattle.law_order.specs.pg_intentions.Fills.{with_fill_birth, wished_birth, without_wished}
+use Rattle.law_order.specs.pg_intentions.Intending.{begin_intent}
+use Rattle.law_order.specs.pg_intentions.Patches.{patch_of}
+use Rattle.law_order.specs.pg_intentions.Seeks.{aim_seek, seek_target}
 use Rattle.law_order.proofs.pg_intentions.Standing.{begun_other}
 use Rattle.law_order.proofs.theory_flood_pieces.Choices.{chosen}
+use Rattle.law_order.proofs.law_frame.Ended.{intents_keep}
 use Rattle.law_births.proofs.Has.{IsFilled, IsWished}
 use Rattle.law_births.proofs.Intends.{With, none_of}
 
@@ -132,51 +134,26 @@ module _ (f : FileId) (n : ℕ) where
     ]
     filled_comes false away k = away_comes (wish_at s g) refl away k
 
-  fill_comes : (s : Store) (g : FileId) (w : Work) → Comes s f n → Comes (begin_fill s g w).store f n
-  fill_comes s g w k = at (is_some (fill_at s g)) refl
-    where
-      at : (t : Bool) → is_some (fill_at s g) ≡ t → Comes (cond t (idle s w) (begin_intent (with_fill_birth s g) (fill_of s g w) w)).store f n
-      at true e = k
-      at false e =
-          filled_comes s g (none_of (fill_at s g) e) (first_target (with_fill_birth s g) w.from) (is_held s g) refl k
+  -- ---- all of it
 
-  -- ---- the others
-
-  patch_comes : (s : Store) (slot : Slot) (w : Work) → Comes s f n → Comes (begin_patch s slot w).store f n
-  patch_comes s slot w k =
-      let i = patch_of s slot w in
-      chosen (λ (d : Done). Comes d.store f n) (is_held s slot.dir) (idle s w) (begin_intent s i w) k
-      (same_comes s (begin_intent s i w).store refl refl (begun_other s i w (intent_key.Fill f) refl) k)
-
-  confirm_comes : (s : Store) (slot : Slot) (w : Work) → Comes s f n → Comes (begin_confirm s slot w).store f n
-  confirm_comes s slot w k =
-      let i = confirm_of s slot in
-      chosen (λ (d : Done). Comes d.store f n) (is_doubtful s slot.dir slot.child) (begin_intent s i w) (idle s w)
-      (same_comes s (begin_intent s i w).store refl refl (begun_other s i w (intent_key.Fill f) refl) k) k
-
-  seek_comes : (s : Store) (g : FileId) (w : Work) → Comes s f n → Comes (begin_seek s g w).store f n
-  seek_comes s g w k =
-      let i = intent.Seek g (seek_target s g) in
-      let again = aim_seek s g in
-      chosen (λ (d : Done). Comes d.store f n) (has_seek s g) (idle (seek_again s g w) w) (begin_intent s i w)
-      (chosen (λ (b : Store). Comes b f n) (was_linked w.linked g) again s
-      (same_comes s again refl refl (aimed_found s.intents (intent_key.Seek g) (seek_target s g) (intent_key.Fill f)) k) k)
-      (same_comes s (begin_intent s i w).store refl refl (begun_other s i w (intent_key.Fill f) refl) k)
-
-  each_comes : {A : Type 0} (step : Store → A → Work → Done) → ((s : Store) (x : A) (w : Work) → Comes s f n → Comes (step s x w).store f n)
-      → (xs : List A) (s : Store) (w : Work) → Comes s f n → Comes (each step s xs w).store f n
-  each_comes step one [] s w k = k
-  each_comes step one (x ∷ xs) s w k = each_comes step one xs (step s x w).store (step s x w).work (one s x w k)
+  -- a Patch, a Confirm or a Seek begins
+  other_comes : (d : Done) (i : Intent) → is_same_key (intent_key.Fill f) (key_of i) ≡ false → Comes d.store f n → Comes (begin_intent d.store i d.work).store f n
+  other_comes d i other k =
+      same_comes d.store (begin_intent d.store i d.work).store refl refl (begun_other d.store i d.work (intent_key.Fill f) other) k
 
   -- a wish stays one until the end, or becomes a Fill
   pub wish_comes : (s : Store) (w : Work) → IsWished s f n → Comes (begin_end s w).store f n
-  wish_comes s w k =
-      let files = files_to_fill s.names in
-      let a = end_others s files in
-      let p = begin_patches a w in
-      let q = begin_fills p.store (to_fill s.names) p.work in
-      let r = begin_seeks q.store (to_seek s) q.work in
-      each_comes begin_confirm confirm_comes (in_order r.work.unsure) r.store r.work
-      (each_comes begin_seek seek_comes (to_seek s) q.store q.work
-      (each_comes begin_fill fill_comes (to_fill s.names) p.store p.work
-      (each_comes begin_patch patch_comes (in_order w.left) a w (inl k))))
+  wish_comes s w wished =
+      intents_keep (idle s w) (λ (d : Done). Comes d.store f n) (record {
+        ends = λ k. inl wished;
+        patches = λ d slot is k. other_comes d (patch_of d.store slot d.work) refl k;
+        fills = λ d g none k. (
+            let b = d.store in
+            let target = first_target (with_fill_birth b g) d.work.from in
+            filled_comes b g (none_of (fill_at b g) none) target (is_held b g) refl k);
+        seeks = λ d g is k. other_comes d (intent.Seek g (seek_target d.store g)) refl k;
+        aims_seek = λ d g k. (
+            let to = seek_target d.store g in
+            same_comes d.store (aim_seek d.store g) refl refl (aimed_found d.store.intents (intent_key.Seek g) to (intent_key.Fill f)) k);
+        confirms = λ d slot is k. other_comes d (confirm_of d.store slot) refl k;
+      }) (inl wished)

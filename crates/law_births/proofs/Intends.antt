@@ -1,6 +1,6 @@
 -- Births behind the end of an event: intentions end and begin, and what is to be filled has a
 -- birth.
-use Rattle.std.proofs.Common.{ℕ, ◌≡◌, ◌≤◌, ◌+◌, ◌⊎◌, arith, Bool, true, false, cond, not, List, [], ◌∷◌, filter, Option, None, Some, is_some, inl, inr, refl, sym, ap, ◌∙◌}
+use Rattle.std.proofs.Common.{ℕ, ◌≡◌, ◌≤◌, ◌+◌, ◌⊎◌, arith, Bool, true, false, cond, not, filter, Option, None, Some, is_some, inl, inr, refl, sym, ap, ◌∙◌}
 use Rattle.std.specs.Option.{option_map}
 use Rattle.std.proofs.lemmas.Bool.{false≢true}
 use Rattle.law_order.specs.pg_base.declared.id.FileId.{FileId}
@@ -9,8 +9,9 @@ use Rattle.law_order.proofs.pg_base.Orders.{is_same_file-refl, is_same_file-true
 use Rattle.law_order.specs.pg_intent.declared.intent.Intent.{Intent}
 use Rattle.law_order.specs.pg_intent.declared.intent.Intent.TheVariants as intent
 use Rattle.law_order.specs.pg_intent.declared.key.IntentKey.TheVariants as intent_key
+use Rattle.law_order.specs.pg_intent.Intent.{key_of}
 use Rattle.law_order.specs.pg_intent.Intents.{begun, has_key}
-use Rattle.law_order.specs.pg_msg.declared.work.Slot.{Slot}
+use Rattle.law_order.specs.pg_intent.Key.{is_same_key}
 use Rattle.law_order.specs.pg_msg.declared.work.Work.{Work}
 use Rattle.law_order.specs.pg_replica.Index.{Files}
 use Rattle.law_order.specs.pg_replica.declared.replica.Replica.{Replica}
@@ -30,15 +31,17 @@ use Rattle.law_order.proofs.pg_store.Wishing.{fill_births, fill_there}
 use Rattle.law_order.proofs.pg_store.Aiming.{gone_as_before}
 use Rattle.law_order.specs.pg_pieces.Done.{Done, idle}
 use Rattle.law_order.specs.pg_intentions.Beginning.{begin_end, end_others, still_stands}
-use Rattle.law_order.specs.pg_intentions.Confirms.{begin_confirm, confirm_of, is_doubtful}
-use Rattle.law_order.specs.pg_intentions.Fills.{begin_fill, begin_fills, fill_of, files_to_fill, is_in, to_fill, wished_birth, with_fill_birth, without_wished}
-use Rattle.law_order.specs.pg_intentions.Intending.{begin_intent, each, in_order}
-use Rattle.law_order.specs.pg_intentions.Patches.{begin_patch, begin_patches, patch_of}
-use Rattle.law_order.specs.pg_intentions.Seeks.{aim_seek, begin_seek, begin_seeks, has_seek, seek_again, seek_target, to_seek, was_linked}
-use Rattle.law_order.proofs.pg_intentions.Standing.{begun_other, filtered}
-use Rattle.law_order.proofs.theory_flood_pieces.Choices.{chosen}
+use Rattle.law_order.specs.pg_intentions.Confirms.{confirm_of}
+use Rattle.law_order.specs.pg_intentions.Fills.{files_to_fill, is_in, wished_birth, with_fill_birth, without_wished}
+use Rattle.law_order.specs.pg_intentions.Intending.{begin_intent}
+use Rattle.law_order.specs.pg_intentions.Patches.{patch_of}
+use Rattle.law_order.specs.pg_intentions.Seeks.{seek_target}
+use Rattle.law_order.proofs.pg_intentions.Standing.{filtered}
+use Rattle.law_order.proofs.law_frame.Ended.{intents_keep}
 use Rattle.law_births.proofs.Has.{Goes, Has, IsAlone, before_goes, goes_itself, goes_then, has_given, none_new, one_new}
 use Rattle.law_births.proofs.Begins.{aim_goes, behind_birth, fresh_given}
+use Rattle.law_births.proofs.Leaves.{begun_stays}
+use Rattle.law_births.proofs.Moving.{stays_goes}
 
 -- ---- some end
 
@@ -61,39 +64,6 @@ ended_goes a files =
     (intents_as_before a (filter (still_stands a files) a.intents) (λ q i there.
     kept (is_in files q) (fill_at a q) i
     (sym (filtered (intent_key.Fill q) (still_stands a files) (is_in files q) (tested q a files) a.intents) ∙ there)))
-
--- ---- Patches and Confirms begin
-
-patch_goes : (s : Store) (slot : Slot) (w : Work) → Goes s (begin_patch s slot w).store
-patch_goes s slot w =
-    let i = patch_of s slot w in
-    chosen (λ (d : Done). Goes s d.store) (is_held s slot.dir) (idle s w) (begin_intent s i w) (goes_itself s)
-    (before_goes s (with_intents s (begun s.intents i)) (intents_as_before s (begun s.intents i) (λ q j there.
-    sym (begun_other s i w (intent_key.Fill q) refl) ∙ there)))
-
-confirm_goes : (s : Store) (slot : Slot) (w : Work) → Goes s (begin_confirm s slot w).store
-confirm_goes s slot w =
-    let i = confirm_of s slot in
-    chosen (λ (d : Done). Goes s d.store) (is_doubtful s slot.dir slot.child) (begin_intent s i w) (idle s w)
-    (before_goes s (with_intents s (begun s.intents i)) (intents_as_before s (begun s.intents i) (λ q j there.
-    sym (begun_other s i w (intent_key.Fill q) refl) ∙ there)))
-    (goes_itself s)
-
-each_goes : {A : Type 0} (step : Store → A → Work → Done) → ((s : Store) (x : A) (w : Work) → Goes s (step s x w).store)
-    → (xs : List A) (s : Store) (w : Work) → Goes s (each step s xs w).store
-each_goes step one [] s w = goes_itself s
-each_goes step one (x ∷ xs) s w = goes_then (one s x w) (each_goes step one xs (step s x w).store (step s x w).work)
-
--- ---- Seeks begin, or are aimed anew
-
-seek_goes : (s : Store) (file : FileId) (w : Work) → Goes s (begin_seek s file w).store
-seek_goes s file w =
-    let i = intent.Seek file (seek_target s file) in
-    chosen (λ (d : Done). Goes s d.store) (has_seek s file) (idle (seek_again s file w) w) (begin_intent s i w)
-    (chosen (λ (b : Store). Goes s b) (was_linked w.linked file) (aim_seek s file) s
-    (aim_goes s (intent_key.Seek file) (seek_target s file)) (goes_itself s))
-    (before_goes s (with_intents s (begun s.intents i)) (intents_as_before s (begun s.intents i) (λ q j there.
-    sym (begun_other s i w (intent_key.Fill q) refl) ∙ there)))
 
 -- ---- a Fill begins
 
@@ -204,26 +174,23 @@ pub none_of : (o : Option Intent) → is_some o ≡ false → o ≡ None
 none_of None e = refl
 none_of (Some i) e = cc
 
-fill_goes : (s : Store) (file : FileId) (w : Work) → Goes s (begin_fill s file w).store
-fill_goes s file w = at (is_some (fill_at s file)) refl
-  where
-    at : (t : Bool) → is_some (fill_at s file) ≡ t
-        → Goes s (cond t (idle s w) (begin_intent (with_fill_birth s file) (fill_of s file w) w)).store
-    at true e = goes_itself s
-    at false e =
-        filled_goes s file (none_of (fill_at s file) e) (first_target (with_fill_birth s file) w.from) (is_held s file) refl
-
 -- ---- all of it
+
+-- a Patch, a Confirm or a Seek begins
+other_goes : (s : Store) (d : Done) (i : Intent) → ((q : FileId) → is_same_key (intent_key.Fill q) (key_of i) ≡ false) → Goes s d.store
+    → Goes s (begin_intent d.store i d.work).store
+other_goes s d i other k = goes_then k (stays_goes (begun_stays d.store i d.work other))
 
 pub begin_end_goes : (s : Store) (w : Work) → Goes s (begin_end s w).store
 begin_end_goes s w =
-    let files = files_to_fill s.names in
-    let a = end_others s files in
-    let p = begin_patches a w in
-    let q = begin_fills p.store (to_fill s.names) p.work in
-    let r = begin_seeks q.store (to_seek s) q.work in
-    goes_then (ended_goes s files)
-    (goes_then (each_goes begin_patch patch_goes (in_order w.left) a w)
-    (goes_then (each_goes begin_fill fill_goes (to_fill s.names) p.store p.work)
-    (goes_then (each_goes begin_seek seek_goes (to_seek s) q.store q.work)
-    (each_goes begin_confirm confirm_goes (in_order r.work.unsure) r.store r.work))))
+    intents_keep (idle s w) (λ (d : Done). Goes s d.store) (record {
+      ends = λ k. goes_then k (ended_goes s (files_to_fill s.names));
+      patches = λ d slot is k. other_goes s d (patch_of d.store slot d.work) (λ q. refl) k;
+      fills = λ d file none k. (
+          let b = d.store in
+          let target = first_target (with_fill_birth b file) d.work.from in
+          goes_then k (filled_goes b file (none_of (fill_at b file) none) target (is_held b file) refl));
+      seeks = λ d file is k. other_goes s d (intent.Seek file (seek_target d.store file)) (λ q. refl) k;
+      aims_seek = λ d file k. goes_then k (aim_goes d.store (intent_key.Seek file) (seek_target d.store file));
+      confirms = λ d slot is k. other_goes s d (confirm_of d.store slot) (λ q. refl) k;
+    }) (goes_itself s)

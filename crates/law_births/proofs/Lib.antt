@@ -7,7 +7,6 @@ pub mod Begins
 mod Moving
 pub mod Leaves
 pub mod Intends
-mod Losing
 mod Handlers
 mod Entering
 mod Calls
@@ -27,12 +26,12 @@ mod Parting
 mod Raising
 mod Behind
 mod Received
-mod FineLosses
 mod FineCalls
 mod Forward
 mod Sends
 mod Spoken
 mod Named
+pub mod Current
 pub mod Alone
 mod Given
 mod Gone

@@ -1,27 +1,25 @@
--- A server's own flags are of births that it gave out, where it raises them.
-use Rattle.std.proofs.Common.{ℕ, ◌≡◌, Bool, true, Some, refl, sym, subst}
-use Rattle.std.specs.Prelude.{nat_lt}
+-- A server's own flags are of births that it gave out: it flags what it holds alone.
+use Rattle.std.proofs.Common.{ℕ, ◌≡◌, Bool, true, false, cond, Option, None, Some, is_some, refl, sym, ap, subst}
+use Rattle.std.proofs.lemmas.Bool.{false≢true}
 use Rattle.law_order.specs.pg_base.declared.id.FileId.{FileId}
 use Rattle.law_order.specs.pg_msg.declared.update.Update.TheVariants as update
 use Rattle.law_order.specs.pg_msg.declared.work.Work.{Work}
 use Rattle.law_order.specs.pg_msg.Work.{with_made}
-use Rattle.law_order.specs.pg_names.Names.{fill as fill_names}
+use Rattle.law_order.specs.pg_names.Names.{InodeValue, is_flag_new, known, own_of}
 use Rattle.law_order.specs.pg_register.declared.flag.Flag.{Flag}
 use Rattle.law_order.specs.pg_store.declared.store.Store.{Store}
 use Rattle.law_order.specs.pg_store.Births.{birth_of}
-use Rattle.law_order.specs.pg_store.Store.{with_names}
-use Rattle.law_order.specs.pg_store.Together.{birth_at}
+use Rattle.law_order.specs.pg_store.Store.{is_held, is_newer_flag, put_flag, take_flag}
 use Rattle.law_order.specs.pg_pieces.Done.{Done, idle}
-use Rattle.law_order.specs.pg_pieces.Making.{make_flag, own_next, raise_flag}
-use Rattle.law_order.specs.pg_repair.Filling.{few_golds, fill, live_golds, raise_if_few}
-use Rattle.law_order.proofs.theory_flood_pieces.Choices.{chosen}
-use Rattle.law_order.proofs.pg_run.Still.{same_mail}
+use Rattle.law_order.specs.pg_pieces.Making.{make_flag, own_next}
+use Rattle.law_order.specs.pg_pieces.Taking.{take_flag_noted}
+use Rattle.law_order.proofs.pg_run.Still.{flag_still}
+use Rattle.law_births.specs.Flags.{SaysStore}
 use Rattle.law_births.proofs.EndsSay.{ends_stay}
-use Rattle.law_births.proofs.Here.{birth_is}
 use Rattle.law_births.proofs.Mails.{OfBirths, Owed}
-use Rattle.law_births.proofs.Pieces.{fill_stays}
-use Rattle.law_births.proofs.Saying.{IsSaid, said_flag, said_on}
-use Rattle.law_births.proofs.StoreSays.{say_fill}
+use Rattle.law_births.proofs.Pieces.{flag_stays}
+use Rattle.law_births.proofs.Saying.{IsSaid, said_on}
+use Rattle.law_births.proofs.StoreSays.{say_flag}
 
 module _ (P : FileId → ℕ → ℕ → Type 0) (G : FileId → ℕ → Type 0) (s from : ℕ) where
   -- flags are of births that were given out
@@ -35,24 +33,23 @@ module _ (P : FileId → ℕ → ℕ → Type 0) (G : FileId → ℕ → Type 0)
   own_fine : (b : Store) (f : FileId) (raised : Bool) → b.names.server ≡ s → P f s (birth_of b f) → Q f (own_next b f raised)
   own_fine b f raised server one = let R : ℕ → Type 0 = λ z. P f z (birth_of b f) in subst R (sym server) one
 
-  pub fine_flag : (b : Store) (f : FileId) (raised : Bool) (w : Work) → Fine (idle b w) → P f s (birth_of b f)
+  -- what is not held takes none
+  none_new : (b : Store) (f : FileId) (flag : Flag) (o : Option InodeValue) → known b.names f ≡ o → is_some o ≡ false → is_newer_flag b f flag ≡ false
+  none_new b f flag None at away = ap (λ (o : Option InodeValue). is_flag_new (own_of o) flag) at
+  none_new b f flag (Some x) at away = absurd (false≢true (sym away))
+
+  flag_says : (b : Store) (f : FileId) (raised : Bool) → SaysStore Q (Owed P G s) s b → (is_held b f ≡ true → P f s (birth_of b f)) → (t : Bool)
+      → is_held b f ≡ t → SaysStore Q (Owed P G s) s (take_flag b f (own_next b f raised))
+  flag_says b f raised k one true held = say_flag Q (Owed P G s) s b f (own_next b f raised) (own_fine b f raised k.names.server (one held)) k
+  flag_says b f raised k one false away =
+      let flag = own_next b f raised in
+      subst (λ (t : Bool). SaysStore Q (Owed P G s) s (cond t (put_flag b f flag) b)) (sym (none_new b f flag (known b.names f) refl away)) k
+
+  pub fine_flag : (b : Store) (f : FileId) (raised : Bool) (w : Work) → Fine (idle b w) → (is_held b f ≡ true → P f s (birth_of b f))
       → Fine (make_flag b f (own_next b f raised) w)
   fine_flag b f raised w k one =
       let flag = own_next b f raised in
       let v = with_made w (update.Flag f flag) in
-      said_flag P Q G s from b f flag v (own_fine b f raised k.store.names.server one)
-      (said_on P Q G s from (idle b w) (idle b v) k k.store k.edges (record { sent = refl; tail = refl; from = refl }))
-
-  pub fine_raise : (b : Store) (f : FileId) (n : ℕ) (w : Work) → Fine (idle b w) → birth_at b f ≡ Some n → P f s n → Fine (raise_flag b f w)
-  fine_raise b f n w k there one = fine_flag b f true w k (subst (P f s) (sym (birth_is b f n there)) one)
-
-  -- ---- what is full, and what is asked to be gold
-
-  fine_few : (b : Store) (f : FileId) (n : ℕ) (w : Work) → Fine (idle b w) → birth_at b f ≡ Some n → P f s n → Fine (raise_if_few b f w)
-  fine_few b f n w k there one = chosen Fine (nat_lt (live_golds b f) few_golds) (raise_flag b f w) (idle b w) (fine_raise b f n w k there one) k
-
-  pub fine_fill : (a : Store) (f : FileId) (n : ℕ) (w : Work) → Fine (idle a w) → birth_at a f ≡ Some n → P f s n → Fine (fill a f w)
-  fine_fill a f n w k there one =
-      let b = with_names a (fill_names a.names f) in
-      fine_few b f n w
-      (said_on P Q G s from (idle a w) (idle b w) k (say_fill Q (Owed P G s) s a f k.store) (ends_stay P (fill_stays a f) k.edges) (same_mail w)) there one
+      let noted = said_on P Q G s from (idle b w) (idle b v) k k.store k.edges (record { sent = refl; tail = refl; from = refl }) in
+      said_on P Q G s from (idle b v) (take_flag_noted b f flag v) noted (flag_says b f raised k.store one (is_held b f) refl)
+      (ends_stay P (flag_stays b f flag) k.edges) (flag_still b f flag v).mail

@@ -1,14 +1,13 @@
 -- What is said of births and flags is said behind each message.
-use Rattle.std.proofs.Common.{ℕ, ◌≡◌, ◌&&◌, Bool, true, false, cond, All, Option, None, Some, refl, sym, ap, subst, ◌∙◌}
+use Rattle.std.proofs.Common.{ℕ, ◌≡◌, ◌&&◌, Bool, true, false, All, Some, refl, sym, ap, subst, ◌∙◌}
 use Rattle.std.proofs.lemmas.Bool.{and_parts, false≢true}
 use Rattle.std.proofs.lemmas.List.Elements.{All-contains, All-filter}
-use Rattle.std.proofs.lemmas.Option.{none-some, same_Some}
+use Rattle.std.proofs.lemmas.Option.{none-some}
 use Rattle.law_order.specs.pg_base.declared.id.FileId.{FileId}
 use Rattle.law_order.specs.pg_base.declared.stamp.Stamp.{Stamp}
 use Rattle.law_order.specs.pg_edges.declared.edge.Edge.{Edge}
 use Rattle.law_order.specs.pg_intent.declared.key.IntentKey.TheVariants as intent_key
 use Rattle.law_order.specs.pg_intent.Intents.{ended}
-use Rattle.law_order.specs.pg_msg.declared.message.Ask.TheVariants as ask
 use Rattle.law_order.specs.pg_msg.declared.message.Ends.{Ends}
 use Rattle.law_order.specs.pg_msg.declared.message.Granted.{Granted}
 use Rattle.law_order.specs.pg_msg.declared.message.Message.{Message}
@@ -20,20 +19,18 @@ use Rattle.law_order.specs.pg_register.declared.flag.Flag.{Flag}
 use Rattle.law_order.specs.pg_store.declared.store.Store.{Store}
 use Rattle.law_order.specs.pg_store.Beginning.{with_intents}
 use Rattle.law_order.specs.pg_store.Births.{birth_of, has_birth, is_pending, with_wishes}
-use Rattle.law_order.specs.pg_store.Links.{knows_later, unlink}
+use Rattle.law_order.specs.pg_store.Links.{unlink}
 use Rattle.law_order.specs.pg_store.Store.{acknowledge, is_full, is_held, keep_delta, replica_at, replica_of, with_names}
 use Rattle.law_order.specs.pg_store.Together.{AreTogether, birth_at}
 use Rattle.law_order.specs.pg_store.Wishes.{aim_wish}
 use Rattle.law_order.proofs.pg_store.Pairs.{unlink_as_before}
 use Rattle.law_order.proofs.pg_calls.Walked.{full_held}
-use Rattle.law_order.specs.pg_pieces.Accepting.{ends_to, is_current, link_peer}
+use Rattle.law_order.specs.pg_pieces.Accepting.{ends_to, is_current}
 use Rattle.law_order.specs.pg_pieces.Done.{Done, idle, link_of}
 use Rattle.law_order.specs.pg_pieces.Making.{own_next, raise_flag}
 use Rattle.law_order.specs.pg_pieces.Posting.{reply}
-use Rattle.law_order.specs.pg_repair.Fetching.{answered_fetch, fetch}
 use Rattle.law_order.specs.pg_repair.Granting.{begun_by, granted_own}
 use Rattle.law_order.specs.pg_graph.Leaving.{goes_now}
-use Rattle.law_order.specs.pg_graph.Seeking.{answered_seek, seek}
 use Rattle.law_order.specs.pg_graph.Walks.{edges_of, is_onward, onward}
 use Rattle.law_order.specs.pg_server.Local.{receive}
 use Rattle.law_order.specs.pg_server.pg_transfer.Asking.{with_notes}
@@ -59,12 +56,6 @@ abbrev gives_leave_to : Message → Bool
 gives_leave_to (message.LeaveOk ends stamp) = true
 gives_leave_to _ = false
 
--- the thing of which a replica is asked for
-abbrev asking : Message → Option FileId
-asking (message.Fetch file birth) = Some file
-asking (message.Seek file birth) = Some file
-asking _ = None
-
 raises_only : (m : Message) (ends : Ends) → raising m ≡ Some ends → begins_replica m ≡ false
 raises_only (message.Grant x granted) ends is = absurd (none-some ends is)
 raises_only m ends is = refl
@@ -84,7 +75,7 @@ module _ (P : FileId → ℕ → ℕ → Type 0) (G : FileId → ℕ → Type 0)
 
   module _ (a : Store) (m : Message) (w : Work) (named : AllNamed P from s m) (says : SaysMessage Q m)
       (fresh : (ends : Ends) → along m ≡ Some ends → Fresh P Q G s from a ends) (both : AreTogether a)
-      (held : (f : FileId) → asking m ≡ Some f → is_held a f ≡ true) (stays : gives_leave_to m ≡ false) where
+      (stays : gives_leave_to m ≡ false) where
     abbrev Behind : Done → Type 0
     Behind d = IsBehind P G s from a m d
 
@@ -138,14 +129,14 @@ module _ (P : FileId → ℕ → ℕ → Type 0) (G : FileId → ℕ → Type 0)
     answer_named d (message.Piece ends p) of k = (back_named ends of.0 of.1 of.2, tt)
     answer_named d (message.Later ends stamp) of k = (back_named ends of.0 of.1 of.2, tt)
     answer_named d (message.Full ends) of k =
-        (to_named d ends ends (own_held d ends.file k (ap begins_replica of.0) (held ends.file (ap asking of.0))) (subst (AllNamed P from s) of.0 named) of.1, tt)
+        (to_named d ends ends (own_held d ends.file k (ap begins_replica of.0) (full_held a.names ends.file of.2)) (subst (AllNamed P from s) of.0 named) of.1, tt)
     answer_named d (message.Grant ends g) of k = (
-      to_named d ends ends (own_held d ends.file k (ap begins_replica of.asked) (held ends.file (ap asking of.asked))) (subst (AllNamed P from s) of.asked named) of.is,
+      to_named d ends ends (own_held d ends.file k (ap begins_replica of.asked) (full_held a.names ends.file of.full)) (subst (AllNamed P from s) of.asked named) of.is,
       subst (λ (x : Granted). All (Q ends.file) x.flags) (sym of.what) (own_says Q (Owed P G s) s d.store ends.file k.fine.store),
     )
     answer_named d (message.NoGrant file birth) of k = (subst (AllNamed P from s) of named, tt)
     answer_named d (message.Here ends) of k =
-        (to_named d ends ends (own_held d ends.file k (ap begins_replica of.0) (held ends.file (ap asking of.0))) (subst (AllNamed P from s) of.0 named) of.1, tt)
+        (to_named d ends ends (own_held d ends.file k (ap begins_replica of.0) of.2) (subst (AllNamed P from s) of.0 named) of.1, tt)
     answer_named d (message.NoneHere what file child) of k = (tt, tt)
     answer_named d (message.ByeOk file birth) of k =
         let one : ends_named P from s of.0 = subst (AllNamed P from s) of.1 named in
@@ -214,7 +205,7 @@ module _ (P : FileId → ℕ → ℕ → Type 0) (G : FileId → ℕ → Type 0)
           let f = ends.file in
           let own = own_at d f ends.receiver k (raises_only m ends is) (of_birth (replica_at a f) ends.receiver there) in
           let same = (flag_stays d.store f (own_next d.store f true)).before in
-          behind_same P G s from a m d (raise_flag d.store f d.work) k (fine_flag P G s from d.store f true d.work k.fine own) same.births same.held);
+          behind_same P G s from a m d (raise_flag d.store f d.work) k (fine_flag P G s from d.store f true d.work k.fine (λ here. own)) same.births same.held);
       goes = λ ends stamp is may k. absurd (leaves_not ends stamp is);
       says_bye = λ d ends stamp e is may among k. absurd (leaves_not ends stamp is);
       ends_intent = λ d q is k.
@@ -257,37 +248,13 @@ module _ (P : FileId → ℕ → ℕ → Type 0) (G : FileId → ℕ → Type 0)
     kept born first =
         (receive_keeps a w Behind m keeps_fine (record { fine = first; born = born; births = λ none f. refl; holds = λ none f. refl })).fine
 
-  -- what is asked for is held, or it is told that it is not
-  fetch_fine : (a : Store) (file : FileId) (birth : ℕ) (w : Work) → P file from birth → AreTogether a → IsBorn a → Fine (idle a w) → (t : Bool) → is_full a file ≡ t
-      → Fine (fetch a file birth w)
-  fetch_fine a file birth w named both born k true full =
-      let here = full_held a.names file full in
-      kept a (message.Fetch file birth) w named tt (λ ends of. absurd (none-some ends of)) both
-      (λ f is. subst (λ (q : FileId). is_held a q ≡ true) (same_Some file f is) here) refl born k
-  fetch_fine a file birth w named both born k false none =
-      let r = message.NoGrant file birth in
-      let far = cond (knows_later a file w.from birth) (idle a w) (answered_fetch file birth (link_peer a file w.from birth w)) in
-      subst (λ (t : Bool). Fine (cond t far (idle a (reply a r w)))) (sym none) (said_reply P Q G s from a r w named tt k)
-
-  seek_fine : (a : Store) (file : FileId) (birth : ℕ) (w : Work) → P file from birth → AreTogether a → IsBorn a → Fine (idle a w) → (t : Bool) → is_held a file ≡ t
-      → Fine (seek a file birth w)
-  seek_fine a file birth w named both born k true here =
-      kept a (message.Seek file birth) w named tt (λ ends of. absurd (none-some ends of)) both
-      (λ f is. subst (λ (q : FileId). is_held a q ≡ true) (same_Some file f is) here) refl born k
-  seek_fine a file birth w named both born k false none =
-      let r = message.NoneHere ask.Seek file file in
-      let far = cond (knows_later a file w.from birth) (idle a w) (answered_seek file birth (link_peer a file w.from birth w)) in
-      subst (λ (t : Bool). Fine (cond t far (idle a (reply a r w)))) (sym none) (said_reply P Q G s from a r w tt tt k)
-
   -- ANY MESSAGE
   pub fine_received : (a : Store) (m : Message) (w : Work) → AllNamed P from s m → SaysMessage (OfBirths P) m
       → ((ends : Ends) → along m ≡ Some ends → Fresh P (OfBirths P) G s from a ends)
       → ((x : Ends) (stamp : Stamp) → m ≡ message.LeaveOk x stamp → goes_now a x stamp w ≡ true → G x.file x.receiver) → Born P (OfBirths P) G s from a → AreTogether a
       → Fine (idle a w)
       → Fine (receive a m w)
-  fine_received a (message.Fetch file birth) w named says fresh going born both k = fetch_fine a file birth w named both born k (is_full a file) refl
-  fine_received a (message.Seek file birth) w named says fresh going born both k = seek_fine a file birth w named both born k (is_held a file) refl
   fine_received a (message.LeaveOk ends stamp) w named says fresh going born both k =
       said_leave_ok P Q G s from a ends stamp w named.1 (going ends stamp refl) k
   fine_received a m w named says fresh going born both k =
-      kept a m w named says fresh both (λ f is. absurd (none-some f is)) refl born k
+      kept a m w named says fresh both refl born k

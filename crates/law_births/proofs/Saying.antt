@@ -23,16 +23,16 @@ use Rattle.law_order.specs.pg_store.Births.{birth_of, has_birth, is_pending}
 use Rattle.law_order.specs.pg_store.Together.{birth_at}
 use Rattle.law_order.specs.pg_pieces.Done.{Done, idle}
 use Rattle.law_order.specs.pg_pieces.Posting.{post, reply, sent_to}
-use Rattle.law_order.specs.pg_pieces.Taking.{take_entry_noted, take_flag_noted, take_place_noted}
+use Rattle.law_order.specs.pg_pieces.Taking.{take_entry_noted, take_place_noted}
 use Rattle.law_order.specs.pg_run.Births.{AllNamed}
 use Rattle.law_births.specs.Flags.{SaysEntry, SaysStore}
 use Rattle.law_births.proofs.Ends.{ends}
 use Rattle.law_births.proofs.EndsSay.{SaysEnds, ends_stay}
 use Rattle.law_births.proofs.Here.{birth_is}
-use Rattle.law_births.proofs.Pieces.{entry_stays, flag_stays, place_stays}
-use Rattle.law_births.proofs.StoreSays.{say_entry, say_flag, say_place}
+use Rattle.law_births.proofs.Pieces.{entry_stays, place_stays}
+use Rattle.law_births.proofs.StoreSays.{say_entry, say_place}
 use Rattle.law_births.proofs.Mails.{Owed, SaysAll, SaysSent}
-use Rattle.law_order.proofs.pg_run.Still.{SameMail, entry_still, flag_still, place_still}
+use Rattle.law_order.proofs.pg_run.Still.{SameMail, entry_still, place_still}
 
 -- in the midst of an event at server s, in which a message came from this server
 pub record IsSaid (P : FileId → ℕ → ℕ → Type 0) (Q : FileId → Flag → Type 0) (G : FileId → ℕ → Type 0) (s from : ℕ) (d : Done) : Type 0 where
@@ -61,11 +61,6 @@ module _ (P : FileId → ℕ → ℕ → Type 0) (Q : FileId → Flag → Type 0
   said_place a f place w k =
       said_on (idle a w) (take_place_noted a f place w) k (say_place Q (Owed P G s) s a f place k.store) (ends_stay P (place_stays a f place) k.edges)
       (place_still a f place w).mail
-
-  pub said_flag : (a : Store) (f : FileId) (flag : Flag) (w : Work) → Q f flag → Said (idle a w) → Said (take_flag_noted a f flag w)
-  said_flag a f flag w one k =
-      said_on (idle a w) (take_flag_noted a f flag w) k (say_flag Q (Owed P G s) s a f flag one k.store) (ends_stay P (flag_stays a f flag) k.edges)
-      (flag_still a f flag w).mail
 
   pub said_entry : (a : Store) (dir : FileId) (e : Entry) (w : Work) → SaysEntry Q e → Said (idle a w) → Said (take_entry_noted a dir e w)
   said_entry a dir e w one k =

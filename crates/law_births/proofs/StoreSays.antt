@@ -1,5 +1,5 @@
 -- What is said of all flags is said of what a server holds and intends behind each change.
-use Rattle.std.proofs.Common.{ℕ, ◌≡◌, Bool, true, false, cond, not, List, [], ◌∷◌, ◌++◌, length, drop, filter, max, Option, None, Some, is_some, All, refl, subst}
+use Rattle.std.proofs.Common.{ℕ, ◌≡◌, Bool, true, false, cond, not, List, [], ◌∷◌, ◌++◌, length, drop, filter, max, Option, None, Some, All, refl, subst}
 use Rattle.std.proofs.lemmas.Bool.{and_parts}
 use Rattle.std.proofs.lemmas.List.Elements.{All-cons, All-filter, All-head, All-nil, All-push, All-tail}
 use Rattle.law_order.specs.pg_base.declared.id.FileId.{FileId}
@@ -20,7 +20,6 @@ use Rattle.law_order.specs.pg_intent.declared.key.IntentKey.{IntentKey}
 use Rattle.law_order.specs.pg_intent.declared.key.IntentKey.TheVariants as intent_key
 use Rattle.law_order.specs.pg_intent.Intent.{aimed_at, key_of, rejoined}
 use Rattle.law_order.specs.pg_intent.Intents.{aimed, begun, changed, ended, has_key, intent_at, stands}
-use Rattle.law_order.specs.pg_msg.declared.work.Slot.{Slot}
 use Rattle.law_order.specs.pg_msg.declared.work.Touched.{Touched}
 use Rattle.law_order.specs.pg_msg.declared.work.Work.{Work}
 use Rattle.law_order.specs.pg_names.declared.attributes.Attributes.{Attributes}
@@ -29,22 +28,21 @@ use Rattle.law_order.specs.pg_house.House.{house}
 use Rattle.law_order.specs.pg_house.Work.{state_of}
 use Rattle.law_order.specs.pg_replica.declared.link.Link.{Link}
 use Rattle.law_order.specs.pg_store.declared.store.Store.{Store}
-use Rattle.law_order.specs.pg_store.declared.wishes.Wish.{Wish}
 use Rattle.law_order.specs.pg_store.Beginning.{begin, let_go, patches_of, put_new, take_patch, take_patches, take_told, take_told_in, with_intents}
-use Rattle.law_order.specs.pg_store.Births.{fill_at, wish_at}
 use Rattle.law_order.specs.pg_store.Links.{is_linked, is_new_link, link, put_link, unlink}
-use Rattle.law_order.specs.pg_store.Store.{acknowledge, is_held, is_new_version, is_newer_entry, is_newer_flag, is_newer_place, put_entry, put_flag, put_place, put_version, take_entry, take_flag, take_place, take_version, touch, with_names, write}
+use Rattle.law_order.specs.pg_store.Store.{acknowledge, is_new_version, is_newer_entry, is_newer_flag, is_newer_place, put_entry, put_flag, put_place, put_version, take_entry, take_flag, take_place, take_version, touch, with_names, write}
 use Rattle.law_order.proofs.pg_store.Going.{cell_left, own_left}
 use Rattle.law_order.specs.pg_pieces.Done.{Done, idle}
 use Rattle.law_order.specs.pg_cells.Settling.{rules, touch_all}
-use Rattle.law_order.specs.pg_intentions.Beginning.{begin_end, end_others, still_stands}
+use Rattle.law_order.specs.pg_intentions.Beginning.{begin_end, still_stands}
 use Rattle.law_order.specs.pg_repair.Confirming.{own_entry}
-use Rattle.law_order.specs.pg_intentions.Confirms.{begin_confirm, confirm_of, is_doubtful}
-use Rattle.law_order.specs.pg_intentions.Fills.{begin_fill, begin_fills, fill_of, files_to_fill, to_fill, with_fill_birth, without_wished}
-use Rattle.law_order.specs.pg_intentions.Intending.{begin_intent, each, in_order}
-use Rattle.law_order.specs.pg_intentions.Patches.{begin_patch, begin_patches, patch_of}
-use Rattle.law_order.specs.pg_intentions.Seeks.{aim_seek, begin_seek, begin_seeks, has_seek, seek_again, seek_target, to_seek, was_linked}
+use Rattle.law_order.specs.pg_intentions.Confirms.{confirm_of}
+use Rattle.law_order.specs.pg_intentions.Fills.{fill_of, files_to_fill, with_fill_birth}
+use Rattle.law_order.specs.pg_intentions.Intending.{begin_intent}
+use Rattle.law_order.specs.pg_intentions.Patches.{patch_of}
+use Rattle.law_order.specs.pg_intentions.Seeks.{seek_target}
 use Rattle.law_order.proofs.theory_flood_pieces.Choices.{chosen}
+use Rattle.law_order.proofs.law_frame.Ended.{fill_born, intents_keep}
 use Rattle.law_births.specs.Flags.{SaysEntry, SaysIntent, SaysNames, SaysStore}
 use Rattle.law_births.proofs.Joined.{joins_all}
 use Rattle.law_births.proofs.NamesSay.{house_says, says_begin, says_entry, says_fill, says_flag, says_last, says_place}
@@ -236,48 +234,18 @@ module _ (Q : FileId → Flag → Type 0) (B : FileId → ℕ → ℕ → ℕ �
   pub intends_says : (a : Store) (i : Intent) (work : Work) → SaysIntent Q B i → Says a → Says (begin_intent a i work).store
   intends_says a i work one k = say_intents a (begun a.intents i) (begun_says a.intents i k.intents one) k
 
-  each_says : {A : Type 0} (step : Store → A → Work → Done) → ((s : Store) (x : A) (w : Work) → Says s → Says (step s x w).store)
-      → (xs : List A) (s : Store) (w : Work) → Says s → Says (each step s xs w).store
-  each_says step one [] s w k = k
-  each_says step one (x ∷ xs) s w k = each_says step one xs (step s x w).store (step s x w).work (one s x w k)
-
-  patch_says : (s : Store) (slot : Slot) (w : Work) → Says s → Says (begin_patch s slot w).store
-  patch_says s slot w k =
-      chosen (λ (d : Done). Says d.store) (is_held s slot.dir) (idle s w) (begin_intent s (patch_of s slot w) w) k
-      (intends_says s (patch_of s slot w) w (entry_says s slot.child k) k)
-
-  confirm_says : (s : Store) (slot : Slot) (w : Work) → Says s → Says (begin_confirm s slot w).store
-  confirm_says s slot w k =
-      chosen (λ (d : Done). Says d.store) (is_doubtful s slot.dir slot.child) (begin_intent s (confirm_of s slot) w) (idle s w)
-      (intends_says s (confirm_of s slot) w tt k) k
-
-  wished_says : (s : Store) (file : FileId) (o : Option Wish) → Says s → Says (without_wished s file o)
-  wished_says s file None k = record { names = k.names; intents = k.intents }
-  wished_says s file (Some wish) k = record { names = k.names; intents = k.intents }
-
-  fill_says : (s : Store) (file : FileId) (w : Work) → Says s → Says (begin_fill s file w).store
-  fill_says s file w k =
-      let b = with_fill_birth s file in
-      let to_b = chosen Says (is_held s file) s (without_wished s file (wish_at s file)) k (wished_says s file (wish_at s file) k) in
-      chosen (λ (d : Done). Says d.store) (is_some (fill_at s file)) (idle s w) (begin_intent b (fill_of s file w) w) k
-      (intends_says b (fill_of s file w) w tt to_b)
-
-  -- a Seek names no flag
-  seek_says : (s : Store) (file : FileId) (w : Work) → Says s → Says (begin_seek s file w).store
-  seek_says s file w k =
-      let i = intent.Seek file (seek_target s file) in
-      chosen (λ (d : Done). Says d.store) (has_seek s file) (idle (seek_again s file w) w) (begin_intent s i w)
-      (chosen Says (was_linked w.linked file) (aim_seek s file) s (say_aimed s (intent_key.Seek file) (seek_target s file) k) k)
-      (intends_says s i w tt k)
-
   pub say_begin_end : (s : Store) (w : Work) → Says s → Says (begin_end s w).store
-  say_begin_end s w k =
-      let files = files_to_fill s.names in
-      let a = end_others s files in
-      let p = begin_patches a w in
-      let q = begin_fills p.store (to_fill s.names) p.work in
-      let one = say_intents s (filter (still_stands s files) s.intents) (All-filter (still_stands s files) (SaysIntent Q B) s.intents k.intents) k in
-      let r = begin_seeks q.store (to_seek s) q.work in
-      each_says begin_confirm confirm_says (in_order r.work.unsure) r.store r.work
-      (each_says begin_seek seek_says (to_seek s) q.store q.work
-      (each_says begin_fill fill_says (to_fill s.names) p.store p.work (each_says begin_patch patch_says (in_order w.left) a w one)))
+  say_begin_end s w =
+      intents_keep (idle s w) (λ (d : Done). Says d.store) (record {
+        ends = λ k. (
+            let test = still_stands s (files_to_fill s.names) in
+            say_intents s (filter test s.intents) (All-filter test (SaysIntent Q B) s.intents k.intents) k);
+        patches = λ d slot is k. intends_says d.store (patch_of d.store slot d.work) d.work (entry_says d.store slot.child k) k;
+        fills = λ d file none k. (
+            let b = d.store in
+            intends_says (with_fill_birth b file) (fill_of b file d.work) d.work tt
+            (fill_born Says b file k (record { names = k.names; intents = k.intents }) (record { names = k.names; intents = k.intents })));
+        seeks = λ d file is k. intends_says d.store (intent.Seek file (seek_target d.store file)) d.work tt k;
+        aims_seek = λ d file k. say_aimed d.store (intent_key.Seek file) (seek_target d.store file) k;
+        confirms = λ d slot is k. intends_says d.store (confirm_of d.store slot) d.work tt k;
+      })

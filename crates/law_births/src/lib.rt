@@ -16,8 +16,9 @@
 //! - `proofs/ByeKeys`, `ByeEvents` and `Owing` look at the key of one Bye: what an event leaves
 //!   there.
 //! - Premises: `IntentionsAreInOrder`; what `law_order` gives is cited in `proofs/Given`.
-//! - Messages go by the walk of `law_frame`: `proofs/Handlers`, `Received`, `Unmade` and `ByeKeys`
-//!   say what each piece keeps. A new kind of message that goes along an edge gets its line in
+//! - Messages and calls go by the walks of `law_frame`: `proofs/Handlers`, `Received`, `Unmade` and
+//!   `ByeKeys` say what each piece of a message keeps, `Calls`, `FineCalls` and `ByeCalls` of a
+//!   call. A new kind of message that goes along an edge gets its line in
 //!   `along_named` (`proofs/Mails`), and one that links its sender another in `linking_named`.
 #![tactic(auto)]
 

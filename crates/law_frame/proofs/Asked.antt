@@ -124,8 +124,8 @@ calls_keep_askers a c w = call_keeps a w (Same a w) (Same a w) c (same_keeps a w
 
 pub intentions_keep_askers : IntentionsKeepAskers
 intentions_keep_askers done =
-    intents_keep (λ (d : Done). d.work.from ≡ done.work.from) (record {
-      ends = λ d k. k;
+    intents_keep done (λ (d : Done). d.work.from ≡ done.work.from) (record {
+      ends = λ k. k;
       patches = λ d slot away k. begun d (patch_of d.store slot d.work) ∙ k;
       fills = λ d file none k. (
           let b = idle (with_fill_birth d.store file) d.work in
@@ -133,4 +133,4 @@ intentions_keep_askers done =
       seeks = λ d file none k. begun d (intent.Seek file (seek_target d.store file)) ∙ k;
       aims_seek = λ d file k. k;
       confirms = λ d slot doubted k. begun d (confirm_of d.store slot) ∙ k;
-    }) done refl
+    }) refl

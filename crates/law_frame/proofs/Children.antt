@@ -129,12 +129,12 @@ module _ (a : Store) (w : Work) (I : Done → Type 0) where
       let to = link_peer a file w.from birth w in
       let late = knows_later a file w.from birth in
       let none = message.NoneHere ask.Seek file file in
-      chosen J (is_held a file) (cond late (idle a w) (answered_seek file birth to))
+      decided J (is_held a file) (cond late (idle a w) (answered_seek file birth to))
       (idle a (reply a none w))
-      (chosen J late (idle a w) (answered_seek file birth to) h
-      (answered a w I m k to (message.Here (ends_to to.store file birth)) (refl, refl)
+      (λ here. chosen J late (idle a w) (answered_seek file birth to) h
+      (answered a w I m k to (message.Here (ends_to to.store file birth)) (refl, refl, here)
       (linked a w I m k (idle a w) file birth refl h)))
-      (answered a w I m k (idle a w) none tt h)
+      (λ away. answered a w I m k (idle a w) none tt h)
 
   pub here_keeps : (ends : Ends) → Keeps a w (message.Here ends) I → J (idle a w)
       → J (here a ends w)
@@ -167,13 +167,13 @@ module _ (a : Store) (w : Work) (I : Done → Type 0) where
         let to = link_peer a ends.file origin birth w in
         decided J (is_accepted a w.from manner.Needs ends) (cond mine (idle a w) on)
         (accept a ends manner.Needs w)
-        (λ accepted. chosen J mine (idle a w) on h
-        (chosen J (goes_on hops On)
+        (λ accepted. decided J mine (idle a w) on (λ own. h)
+        (λ other. chosen J (goes_on hops On)
         (idle a (walk_on a ends.file origin birth hops word On w))
         (meet_origin a ends.file origin birth w)
         (along_keeps accepted (hops - 1) (word / length On) next (slice_get On next) refl) (
           k.tells_origin to ends origin birth hops word refl accepted
-              (k.meets (idle a w) ends origin birth hops word refl accepted h.0),
+              (k.meets (idle a w) ends origin birth hops word refl (accepted, other) h.0),
           (linked_still a ends.file origin birth w).mail.from,
         )))
         (λ no. accept_keeps a w I m k manner.Needs ends refl tt h)

@@ -1,6 +1,6 @@
 -- WHAT A LAW SAYS OF THE PIECES OF A MESSAGE: each piece keeps it, where the message that came is
 -- the one that has this piece.
-use Rattle.std.proofs.Common.{ℕ, ◌≡◌, Bool, true, false, Option, None, Some, slice_get}
+use Rattle.std.proofs.Common.{ℕ, ◌≡◌, ◌==◌, Bool, true, false, Option, None, Some, slice_get}
 use Rattle.std.specs.Prelude.{Contains, nat_lt}
 use Rattle.pg_run.specs.pg_announced.Announced.{NotesValue}
 use Rattle.pg_run.specs.pg_base.declared.head.Head.{Head}
@@ -131,6 +131,7 @@ module _ (a : Store) (m : Message) (b : Store) where
   pub record IsGranted (ends : Ends) (granted : Granted) : Type 0 where
     pub asked : m ≡ message.Fetch ends.file ends.receiver
     pub is : ends ≡ ends_to b ends.file ends.receiver
+    pub full : is_full a ends.file ≡ true
     pub here : Replica
     pub at : replica_at b ends.file ≡ Some here
     pub what : granted ≡ granted_from ends.file (own_or_blank b.names ends.file) here
@@ -147,10 +148,12 @@ module _ (a : Store) (m : Message) (b : Store) where
   Answers (message.Later ends stamp) = IsBack ends
   Answers (message.Full ends) =
       (m ≡ message.Fetch ends.file ends.receiver) × (ends ≡ ends_to b ends.file ends.receiver)
+      × (is_full a ends.file ≡ true)
   Answers (message.Grant ends granted) = IsGranted ends granted
   Answers (message.NoGrant file birth) = m ≡ message.Fetch file birth
   Answers (message.Here ends) =
       (m ≡ message.Seek ends.file ends.receiver) × (ends ≡ ends_to b ends.file ends.receiver)
+      × (is_held a ends.file ≡ true)
   Answers (message.NoneHere what file child) = Unit {0}
   Answers (message.ByeOk file birth) =
       (ends : Ends) × (m ≡ message.Bye ends) × (file ≡ ends.file) × (birth ≡ ends.sender)
@@ -206,7 +209,7 @@ pub record Keeps (a : Store) (w : Work) (m : Message) (I : Done → Type 0) : Ty
       → d.work.from ≡ w.from → I d → I (link_peer d.store file d.work.from birth d.work)
   pub meets : (d : Done) (ends : Ends) (origin birth hops word : ℕ)
       → m ≡ message.Walk ends origin birth hops word
-      → is_accepted a w.from manner.Needs ends ≡ true
+      → (is_accepted a w.from manner.Needs ends ≡ true) × ((origin == a.names.server) ≡ false)
       → I d → I (link_peer d.store ends.file origin birth d.work)
   pub unlinks : (d : Done) (file : FileId) (birth : ℕ) → unlinking m ≡ Some (file, birth)
       → d.work.from ≡ w.from → I d → I (idle (unlink d.store file d.work.from birth) d.work)

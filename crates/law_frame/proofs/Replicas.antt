@@ -54,14 +54,15 @@ module _ (a : Store) (w : Work) (I : Done → Type 0) where
   -- ---- asked for
 
   given_keeps : (m : Message) (k : Keeps a w m I) (d : Done) (file : FileId) (birth : ℕ)
-      → m ≡ message.Fetch file birth → (o : Option Replica) → replica_at d.store file ≡ o → J d
+      → m ≡ message.Fetch file birth → is_full a file ≡ true
+      → (o : Option Replica) → replica_at d.store file ≡ o → J d
       → J (idle d.store (given d.store (ends_to d.store file birth) o d.work))
-  given_keeps m k d file birth is None at h = h
-  given_keeps m k d file birth is (Some x) at h =
+  given_keeps m k d file birth is full None at h = h
+  given_keeps m k d file birth is full (Some x) at h =
       let ends = ends_to d.store file birth in
       answered a w I m k d
       (message.Grant ends (granted_from file (own_or_blank d.store.names file) x))
-      (record { asked = is; is = refl; here = x; at = at; what = refl }) h
+      (record { asked = is; is = refl; full = full; here = x; at = at; what = refl }) h
 
   pub fetch_keeps : (file : FileId) (birth : ℕ) → Keeps a w (message.Fetch file birth) I
       → J (idle a w) → J (fetch a file birth w)
@@ -72,13 +73,13 @@ module _ (a : Store) (w : Work) (I : Done → Type 0) where
       let none = idle a (reply a (message.NoGrant file birth) w) in
       let met = linked a w I m k (idle a w) file birth refl h in
       let ends = ends_to to.store file birth in
-      chosen J (is_full a file) (cond late (idle a w) (answered_fetch file birth to)) none
-      (chosen J late (idle a w) (answered_fetch file birth to) h
+      decided J (is_full a file) (cond late (idle a w) (answered_fetch file birth to)) none
+      (λ full. chosen J late (idle a w) (answered_fetch file birth to) h
       (chosen (λ (v : Work). J (idle to.store v)) (is_clean to.store file to.work.from birth)
       (reply to.store (message.Full ends) to.work) (give to.store ends to.work)
-      (answered a w I m k to (message.Full ends) (refl, refl) met)
-      (given_keeps m k to file birth refl (replica_at to.store file) refl met)))
-      (answered a w I m k (idle a w) (message.NoGrant file birth) refl h)
+      (answered a w I m k to (message.Full ends) (refl, refl, full) met)
+      (given_keeps m k to file birth refl full (replica_at to.store file) refl met)))
+      (λ less. answered a w I m k (idle a w) (message.NoGrant file birth) refl h)
 
   -- ---- granted, and not
 

@@ -16,6 +16,8 @@
 //!   event's first moment.
 //! - A law that looks at the order of pieces, as that an answer goes behind what it answers, has a
 //!   walk of its own.
+//! - What a piece is about stands in its premises; where these are several facts they are a record
+//!   (`IsNewWish`, `IsStruck`, `IsBegun`), so that one fact more changes no law that looks at none.
 //! - A new kind of message: its lemma here by the pieces that there are, and no line in the laws. A
 //!   new piece: a field more, and in each law the lemma that keeps it.
 #![tactic(auto)]

@@ -11,12 +11,10 @@ use Rattle.pg_run.specs.pg_intent.Intent.{key_of}
 use Rattle.pg_run.specs.pg_intent.Intents.{stands}
 use Rattle.pg_run.specs.pg_msg.declared.message.Message.{Message}
 use Rattle.pg_run.specs.pg_msg.declared.work.Work.{Work}
-use Rattle.pg_run.specs.pg_register.declared.flag.Flag.{Flag}
 use Rattle.pg_run.specs.pg_store.declared.store.Store.{Store}
-use Rattle.pg_run.specs.pg_pieces.Done.{Done, idle}
+use Rattle.pg_run.specs.pg_pieces.Done.{Done}
 use Rattle.pg_run.specs.pg_pieces.Intending.{begin_intent}
 use Rattle.pg_run.specs.pg_pieces.Posting.{post, sent_to}
-use Rattle.pg_run.specs.pg_calls.Dropping.{leave_of, leaving}
 use Rattle.pg_run.specs.pg_calls.GivingUp.{cells_of, doubt_all, enter_view}
 use Rattle.pg_run.specs.pg_intentions.Inviting.{invite_along, invite_each, invite_of, invites, loose_edge}
 use Rattle.pg_run.specs.pg_msg.declared.work.Slot.{Slot}
@@ -36,11 +34,6 @@ module _ (Q : Work → Type 0) (k : IsClosed Q) where
 
   pub intent_sends : (d : Done) (i : Intent) → OfDone d → OfDone (begin_intent d.store i d.work)
   intent_sends d i h = begun_sends Q k (not (stands d.store.intents (key_of i))) d.work (key_of i) h
-
-  -- a gold replica is asked for leave
-  pub left_sends : (a : Store) (file : FileId) (w : Work) (o : Option Flag) → Q w → Q (leaving a file w o).work
-  left_sends a file w None h = h
-  left_sends a file w (Some flag) h = intent_sends (idle a w) (leave_of file flag) h
 
   -- ---- a server is removed
 

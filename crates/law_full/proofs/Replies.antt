@@ -3,7 +3,6 @@
 use Rattle.std.proofs.Common.{ℕ, ◌≡◌, ◌==◌, ◌/◌, ◌%◌, Bool, true, false, cond, length, Option, None, Some, refl, sym, ap, ◌∙◌}
 use Rattle.std.specs.List.{slice_get}
 use Rattle.std.proofs.lemmas.Bool.{false≢true}
-use Rattle.std.specs.Prelude.{nat_lt}
 use Rattle.pg_run.specs.pg_base.declared.id.FileId.{FileId}
 use Rattle.pg_run.specs.pg_edges.declared.edge.Edge.{Edge}
 use Rattle.pg_run.specs.pg_msg.declared.message.Ends.{Ends}
@@ -13,18 +12,16 @@ use Rattle.pg_run.specs.pg_msg.declared.work.Work.{Work}
 use Rattle.pg_run.specs.pg_msg.Work.{with_sent}
 use Rattle.pg_run.specs.pg_names.declared.attributes.Attributes.{Attributes}
 use Rattle.pg_run.specs.pg_names.Names.{own_or_blank}
-use Rattle.pg_run.specs.pg_names.Names as names
 use Rattle.pg_run.specs.pg_replica.declared.replica.Replica.{Replica}
 use Rattle.pg_run.specs.pg_store.declared.store.Store.{Store}
 use Rattle.pg_run.specs.pg_store.Births.{birth_of}
 use Rattle.pg_run.specs.pg_store.Links.{is_clean, is_new_link, knows_later}
-use Rattle.pg_run.specs.pg_store.Store.{is_full, replica_at, with_names}
+use Rattle.pg_run.specs.pg_store.Store.{is_full, replica_at}
 use Rattle.pg_run.specs.pg_pieces.Accepting.{link_peer}
 use Rattle.pg_run.specs.pg_pieces.Done.{Done, idle}
 use Rattle.pg_run.specs.pg_pieces.Making.{own_next, raise_flag}
 use Rattle.pg_run.specs.pg_pieces.Posting.{reply, sent_to}
 use Rattle.pg_run.specs.pg_repair.Fetching.{answered_fetch, ends_to, fetch, give, given, granted_from}
-use Rattle.pg_run.specs.pg_repair.Filling.{fill, few_golds, live_golds, raise_if_few}
 use Rattle.pg_run.specs.pg_graph.Walks.{edges_of, most_hops, walk_along, walk_from, walk_of, walk_of_tick, with_few_edges}
 use Rattle.pg_run.specs.pg_graph.Leaving.{bye_to}
 use Rattle.pg_run.specs.pg_server.Local.{receive}
@@ -63,14 +60,8 @@ module _ (Q : Work → Type 0) (k : IsClosed Q) where
   peer_sends : (a : Store) (f : FileId) (peer birth : ℕ) (w : Work) → Q w → DoneSends (link_peer a f peer birth w)
   peer_sends a f peer birth w h = link_sends Q k (is_new_link a f peer birth) w f peer h
 
-  pub raise_sends : (a : Store) (f : FileId) (w : Work) → Q w → DoneSends (raise_flag a f w)
+  raise_sends : (a : Store) (f : FileId) (w : Work) → Q w → DoneSends (raise_flag a f w)
   raise_sends a f w h = made_sends Q k a f (own_next a f true) w h
-
-  few_sends : (a : Store) (f : FileId) (w : Work) → Q w → DoneSends (raise_if_few a f w)
-  few_sends a f w h = chosen DoneSends (nat_lt (live_golds a f) few_golds) (raise_flag a f w) (idle a w) (raise_sends a f w h) h
-
-  pub fill_sends : (a : Store) (f : FileId) (w : Work) → Q w → DoneSends (fill a f w)
-  fill_sends a f w h = few_sends (with_names a (names.fill a.names f)) f w h
 
   -- ---- the walk of a tick
 

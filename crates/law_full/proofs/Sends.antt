@@ -89,7 +89,7 @@ module _ (P : Sent → Type 0) (a : Store) where
 
   first_sends : (e : Store) (asked : Input) → MaySend P a e asked → OfDone (first_effect a asked)
   first_sends e (input.Call moment c) may =
-      call_sends OfWork (sent_closed may.plain) a (new_work moment 0) (record { place = λ f p so h. h; version = λ v u h. h }) (none_sent moment 0) c
+      call_sends OfWork (sent_closed may.plain) a (new_work moment 0) (record { place = λ v f p so h. h; version = λ v u h. h }) (none_sent moment 0) c
   first_sends e (input.Tick moment word) may =
       let w = new_work moment 0 in
       tick_work a moment word OfWork (none_sent moment 0)

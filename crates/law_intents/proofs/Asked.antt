@@ -1,5 +1,5 @@
 -- Who is asked by the intentions that begin behind an event.
-use Rattle.std.proofs.Common.{ℕ, ◌≡◌, ◌==◌, Bool, true, false, cond, not, find, is_some, List, [], ◌∷◌, Option, None, Some, All, refl, sym, ap, subst, ◌∙◌}
+use Rattle.std.proofs.Common.{ℕ, ◌≡◌, ◌==◌, Bool, true, false, cond, not, find, List, [], ◌∷◌, Option, None, Some, All, refl, sym, ap, subst, ◌∙◌}
 use Rattle.std.specs.Option.{option_map, unwrap_or}
 use Rattle.std.proofs.lemmas.Bool.{and_parts, not-true}
 use Rattle.std.proofs.lemmas.List.Elements.{All-filter, All-head, All-nil, All-tail}
@@ -13,7 +13,6 @@ use Rattle.law_order.specs.pg_intent.declared.key.IntentKey.TheVariants as inten
 use Rattle.law_order.specs.pg_intent.Intent.{aimed_at, key_of, rejoined, target_of}
 use Rattle.law_order.specs.pg_intent.Intents.{stands}
 use Rattle.law_order.proofs.pg_intent.Above.{not_equal}
-use Rattle.law_order.specs.pg_msg.declared.work.Slot.{Slot}
 use Rattle.law_order.specs.pg_msg.declared.work.Work.{Work}
 use Rattle.law_order.specs.pg_msg.Work.{with_begun}
 use Rattle.law_order.specs.pg_names.declared.attributes.Attributes.{Attributes}
@@ -22,20 +21,20 @@ use Rattle.law_order.specs.pg_register.declared.flag.Flag.{Flag}
 use Rattle.law_order.specs.pg_register.Flag.{first_other_gold, is_live, is_removed}
 use Rattle.law_order.specs.pg_register.Flag.{is_live_other as is_live_other_flag}
 use Rattle.law_order.specs.pg_store.declared.store.Store.{Store}
-use Rattle.law_order.specs.pg_store.declared.wishes.Wish.{Wish}
-use Rattle.law_order.specs.pg_store.Births.{fill_at, wish_at}
+use Rattle.law_order.specs.pg_store.Births.{with_birth, with_wishes}
 use Rattle.law_order.specs.pg_store.Servers.{next_target}
-use Rattle.law_order.specs.pg_store.Store.{is_held}
+use Rattle.law_order.specs.pg_store.Wishes.{without_wish}
 use Rattle.law_order.specs.pg_pieces.Done.{Done, idle}
 use Rattle.law_order.specs.pg_pieces.Golds.{flags_of}
-use Rattle.law_order.specs.pg_intentions.Beginning.{begin_end, end_others, still_stands}
-use Rattle.law_order.specs.pg_intentions.Confirms.{begin_confirm, confirm_of, holder_by, is_doubtful}
-use Rattle.law_order.specs.pg_intentions.Fills.{begin_fill, begin_fills, fill_of, files_to_fill, to_fill, with_fill_birth, without_wished}
-use Rattle.law_order.specs.pg_intentions.Intending.{begin_intent, each, in_order, with_begun_if}
-use Rattle.law_order.specs.pg_intentions.Patches.{begin_patch, begin_patches, patch_of}
+use Rattle.law_order.specs.pg_intentions.Beginning.{begin_end, still_stands}
+use Rattle.law_order.specs.pg_intentions.Confirms.{confirm_of, holder_by}
+use Rattle.law_order.specs.pg_intentions.Fills.{fill_of, files_to_fill, with_fill_birth}
+use Rattle.law_order.specs.pg_intentions.Intending.{begin_intent, with_begun_if}
+use Rattle.law_order.specs.pg_intentions.Patches.{patch_of}
 use Rattle.law_order.specs.pg_graph.Walks.{edges_of}
-use Rattle.law_order.specs.pg_intentions.Seeks.{aim_seek, begin_seek, begin_seeks, has_seek, is_apart, seek_again, seek_target, target_or_next, to_seek, was_linked}
+use Rattle.law_order.specs.pg_intentions.Seeks.{is_apart, seek_target, target_or_next}
 use Rattle.law_order.proofs.theory_flood_pieces.Choices.{chosen}
+use Rattle.law_frame.proofs.Ended.{fill_born, intents_keep}
 use Rattle.law_order.specs.Named.{IsOfServer}
 use Rattle.law_order.proofs.Intended.{all_begun, all_changed}
 use Rattle.law_intents.proofs.Aimed.{first_aims, next_aims}
@@ -80,30 +79,16 @@ module _ (n s : ℕ) (r : List ℕ) where
         (λ held same was. subst (Aims n s r) (sym (rejoined_target held i)) was);
   }
 
-  aiming_either : (t : Bool) (d e : Done) → IsAiming n s r d.store d.work → IsAiming n s r e.store e.work → IsAiming n s r (cond t d e).store (cond t d e).work
-  aiming_either t d e one other = chosen (λ (x : Done). IsAiming n s r x.store x.work) t d e one other
-
-  each_aiming : {A : Type 0} (step : Store → A → Work → Done)
-      → ((b : Store) (x : A) (w : Work) → IsAiming n s r b w → IsAiming n s r (step b x w).store (step b x w).work)
-      → (xs : List A) (b : Store) (w : Work) → IsAiming n s r b w → IsAiming n s r (each step b xs w).store (each step b xs w).work
-  each_aiming step one [] b w k = k
-  each_aiming step one (x ∷ xs) b w k = each_aiming step one xs (step b x w).store (step b x w).work (one b x w k)
-
-  patch_aiming : (b : Store) (x : Slot) (w : Work) → IsAiming n s r b w → IsAiming n s r (begin_patch b x w).store (begin_patch b x w).work
-  patch_aiming b x w k =
-      aiming_either (is_held b x.dir) (idle b w) (begin_intent b (patch_of b x w) w) k
-      (aiming_begun b (patch_of b x w) w k (first_aims n s r b k.servers k.server k.removed w.from k.from))
-
-  wished_aiming : (b : Store) (f : FileId) (o : Option Wish) (w : Work) → IsAiming n s r b w → IsAiming n s r (without_wished b f o) w
-  wished_aiming b f None w k = record { servers = k.servers; server = k.server; removed = k.removed; from = k.from; flags = k.flags; aims = k.aims }
-  wished_aiming b f (Some wish) w k = record { servers = k.servers; server = k.server; removed = k.removed; from = k.from; flags = k.flags; aims = k.aims }
-
-  fill_aiming : (b : Store) (f : FileId) (w : Work) → IsAiming n s r b w → IsAiming n s r (begin_fill b f w).store (begin_fill b f w).work
-  fill_aiming b f w k =
-      let c = with_fill_birth b f in
-      let ready = chosen (λ (x : Store). IsAiming n s r x w) (is_held b f) b (without_wished b f (wish_at b f)) k (wished_aiming b f (wish_at b f) w k) in
-      aiming_either (is_some (fill_at b f)) (idle b w) (begin_intent c (fill_of b f w) w) k
-      (aiming_begun c (fill_of b f w) w ready (first_aims n s r c ready.servers ready.server ready.removed w.from k.from))
+  -- births and wishes do not count
+  aiming_beside : (b c : Store) (w : Work) → c.servers ≡ b.servers → c.names ≡ b.names → c.intents ≡ b.intents → IsAiming n s r b w → IsAiming n s r c w
+  aiming_beside b c w servers names intents k = record {
+    servers = servers ∙ k.servers;
+    server = ap (λ (m : NamesValue). m.server) names ∙ k.server;
+    removed = ap (λ (m : NamesValue). m.removed) names ∙ k.removed;
+    from = k.from;
+    flags = subst (FlagsAreOfServers n) (sym names) k.flags;
+    aims = subst (AreAimed n s r) (sym intents) k.aims;
+  }
 
   -- a live flag of another server
   live_flag : (flag : Flag) → IsOfServer n flag → is_live_other_flag s r flag ≡ true → IsLive n s r flag.server
@@ -144,13 +129,6 @@ module _ (n s : ℕ) (r : List ℕ) where
   holder_by_aims b dir child next (Some e) at server removed all here =
       holder_of b next e.flags (first_other_gold b.names.server b.names.removed e.flags) refl server removed (all.cells dir child e at) here
 
-  confirm_aiming : (b : Store) (x : Slot) (w : Work) → IsAiming n s r b w → IsAiming n s r (begin_confirm b x w).store (begin_confirm b x w).work
-  confirm_aiming b x w k =
-      aiming_either (is_doubtful b x.dir x.child) (begin_intent b (confirm_of b x) w) (idle b w)
-      (aiming_begun b (confirm_of b x) w k
-      (holder_by_aims b x.dir x.child (next_target b b.names.server) (cell_at b.names x.dir x.child) refl k.server k.removed k.flags
-      (next_aims n s r b k.servers k.server k.removed b.names.server))) k
-
   -- a gold replica to which there is no edge
   found_apart : (edges : List Edge) (flags : List Flag) (flag : Flag) → All (IsOfServer n) flags
       → find (is_apart s r edges) flags ≡ Some flag → IsLive n s r flag.server
@@ -185,38 +163,37 @@ module _ (n s : ℕ) (r : List ℕ) where
   seek_aims b f w k =
       seek_by b f (find (is_apart b.names.server b.names.removed (edges_of b f)) (flags_of b f)) refl k.servers k.server k.removed k.flags
 
-  seek_aiming : (b : Store) (f : FileId) (w : Work) → IsAiming n s r b w → IsAiming n s r (begin_seek b f w).store (begin_seek b f w).work
-  seek_aiming b f w k =
-      let to = seek_target b f in
-      let here = seek_aims b f w k in
-      let aimed : IsAiming n s r (aim_seek b f) w = record {
-        servers = k.servers;
-        server = k.server;
-        removed = k.removed;
-        from = k.from;
-        flags = k.flags;
-        aims = all_changed (λ (i : Intent). Aims n s r (target_of i)) (aimed_at to) (intent_key.Seek f)
-            (λ held same was. aimed_target n s r to held here was) b.intents k.aims;
-      } in
-      aiming_either (has_seek b f) (idle (seek_again b f w) w) (begin_intent b (intent.Seek f to) w)
-      (chosen (λ (x : Store). IsAiming n s r x w) (was_linked w.linked f) (aim_seek b f) b aimed k)
-      (aiming_begun b (intent.Seek f to) w k here)
-
   pub end_aiming : (a : Store) (w : Work) → IsAiming n s r a w → IsAiming n s r (begin_end a w).store (begin_end a w).work
-  end_aiming a w k =
-      let e = end_others a (files_to_fill a.names) in
-      let ended : IsAiming n s r e w = record {
-        servers = k.servers;
-        server = k.server;
-        removed = k.removed;
-        from = k.from;
-        flags = k.flags;
-        aims = All-filter (still_stands a (files_to_fill a.names)) (λ (j : Intent). Aims n s r (target_of j)) a.intents k.aims;
-      } in
-      let p = begin_patches e w in
-      let f = begin_fills p.store (to_fill a.names) p.work in
-      let q = begin_seeks f.store (to_seek a) f.work in
-      each_aiming begin_confirm confirm_aiming (in_order q.work.unsure) q.store q.work
-      (each_aiming begin_seek seek_aiming (to_seek a) f.store f.work
-      (each_aiming begin_fill fill_aiming (to_fill a.names) p.store p.work
-      (each_aiming begin_patch patch_aiming (in_order w.left) e w ended)))
+  end_aiming a w =
+      intents_keep (idle a w) (λ (d : Done). IsAiming n s r d.store d.work) (record {
+        ends = λ k. record {
+          servers = k.servers;
+          server = k.server;
+          removed = k.removed;
+          from = k.from;
+          flags = k.flags;
+          aims = All-filter (still_stands a (files_to_fill a.names)) (λ (j : Intent). Aims n s r (target_of j)) a.intents k.aims;
+        };
+        patches = λ d slot is k.
+            aiming_begun d.store (patch_of d.store slot d.work) d.work k (first_aims n s r d.store k.servers k.server k.removed d.work.from k.from);
+        fills = λ d file none k. (
+            let b = d.store in
+            let c = with_fill_birth b file in
+            let ready = fill_born (λ (x : Store). IsAiming n s r x d.work) b file k (aiming_beside b (with_birth b) d.work refl refl refl k)
+            (aiming_beside b (with_wishes b (without_wish b.wishes file)) d.work refl refl refl k) in
+            aiming_begun c (fill_of b file d.work) d.work ready (first_aims n s r c ready.servers ready.server ready.removed d.work.from k.from));
+        seeks = λ d file is k. aiming_begun d.store (intent.Seek file (seek_target d.store file)) d.work k (seek_aims d.store file d.work k);
+        aims_seek = λ d file k. record {
+          servers = k.servers;
+          server = k.server;
+          removed = k.removed;
+          from = k.from;
+          flags = k.flags;
+          aims = all_changed (λ (i : Intent). Aims n s r (target_of i)) (aimed_at (seek_target d.store file)) (intent_key.Seek file)
+              (λ held same was. aimed_target n s r (seek_target d.store file) held (seek_aims d.store file d.work k) was) d.store.intents k.aims;
+        };
+        confirms = λ d slot is k.
+            aiming_begun d.store (confirm_of d.store slot) d.work k
+            (holder_by_aims d.store slot.dir slot.child (next_target d.store d.store.names.server) (cell_at d.store.names slot.dir slot.child) refl k.server k.removed
+            k.flags (next_aims n s r d.store k.servers k.server k.removed d.store.names.server));
+      })

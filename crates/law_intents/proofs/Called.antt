@@ -75,9 +75,10 @@ module _ (n s : ℕ) (r : List ℕ) where
     keeps_far : (c : Call) → KeepsCalls a work c Fine Then
     keeps_far c = record {
       wishes = λ found some k.
-          far_sent n s r (idle (with_wish (with_birth a) found.file (fresh_wish a (holder a found))) work) (holder a found)
-          (message.Fetch found.file (draw_birth a)) (beside _ refl refl refl);
-      asks = λ file wish is some k. far_sent n s r (idle a work) wish.target (message.Fetch file wish.birth) k;
+          far_then n s r _
+          (far_sent n s r (idle (with_wish (with_birth a) found.file (fresh_wish a (holder a found))) work) (holder a found)
+          (message.Fetch found.file (draw_birth a)) (beside _ refl refl refl));
+      asks = λ file wish is some k. far_then n s r _ (far_sent n s r (idle a work) wish.target (message.Fetch file wish.birth) k);
       makes_new = λ kind policy path new is k. (
           let b = with_birth (with_id a) in
           far_begin n s r (idle b work) (beside b refl refl refl) (next_id a kind) (draw_birth (with_id a)) policy (blank_own (next_id a kind)) true
@@ -85,7 +86,7 @@ module _ (n s : ℕ) (r : List ℕ) where
       makes_place = λ d file place is k. far_made n s r d file place k;
       makes_flag = λ d file raised is k. far_flagged n s r d file raised k;
       makes_version = λ d file ranges is k. far_version d file ranges k;
-      begins_leave = λ file flag is k. far_begins n s r (idle a work) (leave_of file flag) (λ some. far_leaving file flag is) (λ dir child. refl) k;
+      begins_leave = λ file flag is k. far_begins n s r (idle a work) (leave_of file flag) (λ some. far_leaving file flag is.0) (λ dir child. refl) k;
       fills = λ d id is k. far_filled n s r d id k;
       strikes = λ id dir is k. (
           let v = with_made work (update.Place id (dead_at a work.now id dir)) in

@@ -34,6 +34,7 @@ use Rattle.law_births.specs.pg_run.Carried.{gone_by, gone_in}
 use Rattle.law_births.specs.pg_run.Laws.{TakesIn}
 use Rattle.law_births.specs.pg_run.Run.{Step, World, next, run}
 use Rattle.law_births.proofs.pg_run.Frame.{next_is}
+use Rattle.law_births.proofs.Current.{met_of}
 use Rattle.law_births.proofs.Effects.{Lists}
 use Rattle.law_leaving.specs.Answers.{AnswersAreToAccepted, IsBodyOf, IsCellOf, IsHarbingerOf}
 use Rattle.law_leaving.specs.Premises.{StandOn}
@@ -117,7 +118,8 @@ module _ (n : ℕ) (on : StandOn n) (events : List Event) (event : Event) (s : �
         let it : TakesIn n W event s (input.Arrival packet) = subst (TakesIn n W event s) is takes in
         let same : (next n W event).stores s ≡ B =
         ap (λ (z : Step). z.stores s) (next_is n W event (record { server = s; asked = asked }) takes) ∙ after_itself W.stores s B in
-        on.births.linked events event s packet there y it (subst (λ z. takes_effect A z ≡ true) is heard) links current
+        on.births.linked events event s packet there y it (subst (λ z. takes_effect A z ≡ true) is heard) links
+        (met_of A packet.from there current)
         (ap (λ (z : Store). replica_at z there.file) same ∙ at)
 
     -- and a body comes along an edge that is there

@@ -129,8 +129,8 @@ still_given b k =
 -- INTENTIONS END AND BEGIN
 pub given_end : (d : Done) → Given d.store → Given (intended d).store
 given_end d k =
-    intents_keep (λ (e : Done). Given e.store) (record {
-      ends = λ e h. still_given e.store h;
+    intents_keep d (λ (e : Done). Given e.store) (record {
+      ends = λ h. still_given d.store h;
       patches = λ e slot away h. given_begins e.store (patch_of e.store slot e.work) e.work (λ q. refl) h;
       fills = λ e file none h. (
           let b = with_fill_birth e.store file in
@@ -143,4 +143,4 @@ given_end d k =
           let to = seek_target e.store file in
           (h.0, aimed_births e.store q to h.1, own-aimed e.store.intents q to h.2));
       confirms = λ e slot doubted h. given_begins e.store (confirm_of e.store slot) e.work (λ q. refl) h;
-    }) d k
+    }) k

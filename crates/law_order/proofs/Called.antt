@@ -1,5 +1,5 @@
 -- A call leaves a server sound, and what it asks for is said.
-use Rattle.std.proofs.Common.{ℕ, ◌≡◌, ◌≤◌, ◌+◌, ◌==◌, Bool, true, false, Option, None, Some, is_some, Result, Ok, Err, List, refl, sym, ap, subst, ◌∙◌, inl, arith}
+use Rattle.std.proofs.Common.{ℕ, ◌≡◌, ◌≤◌, ◌+◌, Bool, true, false, cond, List, Option, None, Some, is_some, Result, Ok, inl, inr, refl, sym, ap, subst, ◌∙◌, arith}
 use Rattle.std.specs.Option.{option_or}
 use Rattle.std.proofs.lemmas.Bool.{false≢true}
 use Rattle.std.proofs.lemmas.List.Elements.{All-nil}
@@ -9,72 +9,70 @@ use Rattle.pg_run.specs.pg_base.declared.id.Kind.{Kind}
 use Rattle.pg_run.specs.pg_base.declared.id.Kind.TheVariants.{Dir, File}
 use Rattle.pg_run.specs.pg_base.declared.policy.Policy.{Policy}
 use Rattle.pg_run.specs.pg_base.declared.policy.Policy.TheVariants.{Last}
-use Rattle.pg_run.specs.pg_base.declared.stamp.Stamp.{Stamp}
 use Rattle.pg_run.specs.pg_base.Id.{is_same_file}
 use Rattle.pg_run.proofs.pg_base.Orders.{is_same_file-true}
-use Rattle.pg_run.specs.pg_patch.Ranges.{RangesValue, cut_to, written}
+use Rattle.pg_run.specs.pg_base.declared.stamp.Stamp.{Stamp}
+use Rattle.pg_run.specs.pg_patch.Ranges.{RangesValue}
 use Rattle.pg_run.specs.pg_intent.declared.intent.Intent.{Intent}
 use Rattle.pg_run.specs.pg_intent.declared.intent.Intent.TheVariants as intent
 use Rattle.pg_run.specs.pg_intent.declared.key.IntentKey.TheVariants as intent_key
 use Rattle.pg_run.specs.pg_intent.Intents.{has_key}
 use Rattle.pg_run.specs.pg_msg.declared.message.Message.TheVariants as message
+use Rattle.pg_run.specs.pg_msg.declared.update.Update.TheVariants as update
 use Rattle.pg_run.specs.pg_msg.declared.work.Work.{Work}
+use Rattle.pg_run.specs.pg_msg.Work.{with_made}
 use Rattle.pg_run.specs.pg_call.declared.call.Call.{Call}
 use Rattle.pg_run.specs.pg_call.declared.call.Call.TheVariants as call
-use Rattle.pg_run.specs.pg_call.declared.call.Target.{Target}
-use Rattle.pg_run.specs.pg_call.declared.refusal.Refusal.TheVariants.{ManyActors, TooLong}
-use Rattle.pg_run.specs.pg_call.declared.reply.Reply.{Reply}
 use Rattle.pg_run.specs.pg_call.declared.reply.Reply.TheVariants as reply
 use Rattle.pg_run.specs.pg_register.declared.flag.Flag.{Flag}
+use Rattle.pg_run.specs.pg_register.declared.place.Place.{Place}
 use Rattle.pg_run.specs.pg_register.Place.{root}
 use Rattle.pg_run.proofs.pg_register.ByServer.{IsByServer-nil}
 use Rattle.pg_run.specs.pg_names.declared.attributes.Attributes.{Attributes}
-use Rattle.pg_run.specs.pg_replica.Replica.{has_many_actors, is_too_long}
-use Rattle.pg_run.specs.pg_names.Names.{InodeValue, blank_own, is_dir, is_full_of, known, or_blank, own_or_blank}
+use Rattle.pg_run.specs.pg_names.Names.{InodeValue, blank_own, is_dir, is_full_of, known, or_blank, own_of, own_or_blank}
 use Rattle.pg_run.specs.pg_house.Facts.{IsHeld}
-use Rattle.pg_run.specs.pg_lookup.declared.paths.Found.{Found}
 use Rattle.pg_run.specs.pg_lookup.declared.paths.LookupError.{LookupError}
-use Rattle.pg_run.specs.pg_lookup.declared.paths.LookupError.TheVariants as stop
 use Rattle.pg_run.specs.pg_store.declared.store.Store.{Store}
 use Rattle.pg_run.specs.pg_store.declared.wishes.Wish.{Wish}
+use Rattle.pg_run.specs.pg_store.Beginning.{begin}
 use Rattle.pg_run.specs.pg_store.Births.{draw_birth, fill_at, wish_at, with_birth, with_wish}
-use Rattle.pg_run.specs.pg_store.Store.{is_full, is_held, is_before_clock_end, replica_of}
+use Rattle.pg_run.specs.pg_store.Store.{is_full, is_held, is_before_clock_end}
 use Rattle.pg_run.specs.pg_store.Together.{HoldsAsBefore, MayBegin}
+use Rattle.pg_run.proofs.pg_store.Aiming.{gone_as_before}
 use Rattle.pg_run.proofs.pg_store.Given.{births_as_before}
 use Rattle.pg_run.proofs.pg_store.Pairs.{birth_as_before}
 use Rattle.pg_run.proofs.pg_store.Wishing.{wish_births}
 use Rattle.pg_run.specs.pg_pieces.Done.{Done, idle}
-use Rattle.pg_run.specs.pg_pieces.Golds.{is_gold}
-use Rattle.pg_run.specs.pg_pieces.Making.{lower_flag}
 use Rattle.pg_run.proofs.pg_graph.LeaveOk.{found_keyed}
-use Rattle.pg_run.proofs.pg_intentions.Needs.{needed_comes}
+use Rattle.pg_run.specs.pg_intentions.Needed.{IsToFill}
+use Rattle.pg_run.proofs.pg_intent.Found.{ended_found}
+use Rattle.pg_run.proofs.pg_intent.SameKey.{is_same_key-refl}
+use Rattle.pg_run.proofs.pg_intentions.Needs.{needed_comes, what_is_needed}
 use Rattle.pg_run.specs.pg_checks.declared.checks.NewName.{NewName}
-use Rattle.pg_run.specs.pg_checks.Answer.{Answer, answer, answered, replied, told, unless}
-use Rattle.pg_run.specs.pg_checks.Asking.{ask_by, ask_first, fetch, fresh_wish, holder, standing, wish_by}
-use Rattle.pg_run.specs.pg_calls.Bodies.{change, change_file, when_fit}
+use Rattle.pg_run.specs.pg_checks.Answer.{answer, answered}
+use Rattle.pg_run.specs.pg_checks.Asking.{fresh_wish, holder, standing, wish_by}
+use Rattle.pg_run.specs.pg_checks.Checks.{new_name}
 use Rattle.pg_run.specs.pg_calls.Calls.{do_call}
-use Rattle.pg_run.specs.pg_checks.Checks.{dir_at, empty_dir_at, file_at, in_time, move_of, new_name, target_at}
-use Rattle.pg_run.specs.pg_calls.Demoting.{demoted_at}
-use Rattle.pg_run.specs.pg_calls.Dropping.{clean_gold, drop, dropped_at, leave_of, leaving}
-use Rattle.pg_run.specs.pg_calls.Forgetting.{lost_at}
-use Rattle.pg_run.specs.pg_calls.GivingUp.{removal_at}
-use Rattle.pg_run.specs.pg_calls.Making.{drawn, first_ranges, make_place, make_version, version_of, with_version}
-use Rattle.pg_run.specs.pg_calls.Naming.{begun, dead_place, next_id, place_in, taken_away, with_first_version, with_id, with_thing}
+use Rattle.pg_run.specs.pg_calls.Dropping.{leave_of}
+use Rattle.pg_run.specs.pg_calls.Forgetting.{bare_entry, dead_at, is_wanted, root_place, unfilled, unwished}
+use Rattle.pg_run.specs.pg_calls.Making.{drawn, make_version, version_of, with_version}
+use Rattle.pg_run.specs.pg_calls.Naming.{begun, dead_place, next_id, place_in, with_first_version, with_id, with_thing}
 use Rattle.pg_run.proofs.pg_calls.InTime.{name_in_time}
-use Rattle.pg_run.proofs.pg_calls.Missing.{IsMissing, demoted_missing, dir_missing, dropped_missing, empty_missing, file_missing, lost_missing, move_missing, name_missing, removal_missing, target_missing}
-use Rattle.pg_run.proofs.pg_checks.Stopping.{StopsAt, stops_then, stops_time, stops_unless}
 use Rattle.pg_run.proofs.pg_calls.Walked.{file_found, full_own}
 use Rattle.pg_run.specs.pg_server.Local.{done_of}
-use Rattle.pg_run.proofs.theory_flood_pieces.Choices.{chosen}
-use Rattle.law_order.specs.Saying.{IsClosed, IsSaidOwn, Saying}
+use Rattle.pg_run.specs.theory_flood_pieces.Laws.{AreAlike}
+use Rattle.law_frame.proofs.Called.{call_keeps}
+use Rattle.law_frame.proofs.KeepsCalls.{Drops, IsLost, IsNew, KeepsCalls, MakesPlace, making}
+use Rattle.law_order.specs.Saying.{IsClosed, IsIntended, IsSaidOwn, Saying}
 use Rattle.law_order.proofs.BirthsStay.{fresh_given}
 use Rattle.law_order.proofs.Ended.{IsAtRest}
 use Rattle.law_order.proofs.Entering.{so_entered}
 use Rattle.law_order.proofs.Files.{thing_files}
-use Rattle.law_order.proofs.Found.{IsFree, IsToGo, dropped_found, empty_found, lost_found, move_found, name_found}
-use Rattle.law_order.proofs.Losing.{so_lost}
-use Rattle.law_order.proofs.Sounding.{Sound, sound_alike, sound_begun, sound_write}
-use Rattle.law_order.proofs.Taking.{IsMember, SoFar, so_begins, so_flagged, so_made, so_raised, so_sent, so_with}
+use Rattle.law_order.proofs.Found.{IsFree, dropped_found, empty_found, lost_found, move_found, name_found}
+use Rattle.law_order.proofs.Losing.{anew_said, marked_said, wanted_thing}
+use Rattle.law_order.proofs.Received.{so_filled}
+use Rattle.law_order.proofs.Sounding.{Sound, sound_alike, sound_begun, sound_ended, sound_write}
+use Rattle.law_order.proofs.Taking.{IsMember, SoFar, so_begins, so_entry, so_flagged, so_made, so_sent, so_with}
 
 -- an id that nobody knows yet
 pub record IsNewId (p : Saying) (a : Store) (id : FileId) : Type 0 where
@@ -93,10 +91,33 @@ no_fill f (Some (intent.Patch dir entry target)) w has none = absurd (false≢tr
 no_fill f (Some (intent.Confirm dir child target)) w has none = absurd (false≢true (has (intent.Confirm dir child target) refl))
 no_fill f (Some (intent.Leave file peer peer_birth)) w has none = absurd (false≢true (has (intent.Leave file peer peer_birth) refl))
 
+pub unfilled_at : (a : Store) (f : FileId) → standing a f ≡ None → fill_at a f ≡ None
+unfilled_at a f none = no_fill f (fill_at a f) (wish_at a f) (λ i at. found_keyed (intent_key.Fill f) i a.intents at) none
+
 -- what is held and not full is filling
 filling_by : (o : Option InodeValue) → is_some o ≡ true → is_full_of o ≡ false → (x : InodeValue) × (o ≡ Some x) × (x.full ≡ false)
 filling_by None held full = absurd (false≢true held)
 filling_by (Some x) held full = (x, refl, full)
+
+-- a Fill stands of what is filling
+abbrev pub IsFilled : Store → FileId → Type 0
+IsFilled a f = (x : InodeValue) → known a.names f ≡ Some x → x.full ≡ false → is_some (fill_at a f) ≡ true
+
+-- so what is not full, and of which no Fill stands, is not held
+pub missing_away : (a : Store) (f : FileId) → IsFilled a f → is_full a f ≡ false → fill_at a f ≡ None → is_held a f ≡ false
+missing_away a f fills missing gap = by (is_held a f) refl
+  where
+    by : (t : Bool) → is_held a f ≡ t → t ≡ false
+    by false there = refl
+    by true there =
+        let x = filling_by (known a.names f) there missing in
+        absurd (false≢true (sym (ap is_some gap) ∙ fills x.0 x.1 x.2))
+
+-- the Fill of what begins anew has ended
+pub gap_behind : (a : Store) (id : FileId) → fill_at (unfilled a id) id ≡ None
+gap_behind a id =
+    let q = intent_key.Fill id in
+    ended_found a.intents q q ∙ ap (λ (t : Bool). cond t None (fill_at a id)) (is_same_key-refl q)
 
 id_as_before : (a : Store) → HoldsAsBefore a (with_id a)
 id_as_before a = record {
@@ -115,12 +136,24 @@ file_apart f true e file = absurd (false≢true (sym file ∙ ap is_dir (is_same
 abbrev pub GivesNewIds : Saying → Store → Call → Work → Type 0
 GivesNewIds p a x work = is_before_clock_end a ≡ true → (kind : Kind) → (do_call a x work).store.files ≡ a.files + 1 → IsNewId p a (next_id a kind)
 
-module _ (p : Saying) (c : IsClosed p) (n s : ℕ) (mine : IsMember p n s) (a : Store) (k : IsAtRest p n s a) where
+-- ---- a call that makes a thing gives out an id
+
+gives_one : (a : Store) (x : Call) (w : Work) (kind : Kind) (policy : Policy) (text : List ℕ) (new : NewName) → x ≡ making kind policy text
+    → new_name a (next_id a kind) text ≡ Ok new → (do_call a x w).store.files ≡ a.files + 1
+gives_one a x w Dir policy text new is found =
+    let id = next_id a Dir in
+    let next = λ (m : NewName). answer (with_thing (with_id a) w id Last m) (reply.Made id) in
+    ap (λ (y : Call). (do_call a y w).store.files) is
+    ∙ ap (λ (r : Result NewName LookupError). (answered a w r next).store.files) found ∙ thing_files (with_id a) w id Last new
+gives_one a x w File policy text new is found =
+    let id = next_id a File in
+    let next = λ (m : NewName). answer (with_first_version id (with_thing (with_id a) w id policy m)) (reply.Made id) in
+    ap (λ (y : Call). (do_call a y w).store.files) is
+    ∙ ap (λ (r : Result NewName LookupError). (answered a w r next).store.files) found ∙ thing_files (with_id a) w id policy new
+
+module _ (p : Saying) (c : IsClosed p) (n s : ℕ) (mine : IsMember p n s) (a : Store) (k : IsAtRest p n s a) (work : Work) where
   abbrev Far : Done → Type 0
   Far d = SoFar p c n s d
-
-  abbrev FarAnswer : Answer → Type 0
-  FarAnswer b = Far (done_of b)
 
   -- ---- places
 
@@ -131,184 +164,146 @@ module _ (p : Saying) (c : IsClosed p) (n s : ℕ) (mine : IsMember p n s) (a : 
   given_place : (b : Store) (f : FileId) (now : ℕ) (new : NewName) → is_same_file f root ≡ false → IsFree a new → p.IsPlace f (place_in b now new)
   given_place b f now new other free = c.given f (place_in b now new) other (thing_of new.dir free.held) free.dir free.name
 
+  so_taken_away : (f : FileId) → IsHeld a.names f → is_same_file f root ≡ false → p.IsPlace f (dead_place a work.now f)
+  so_taken_away f held other =
+      let was = k.sound.named.said.own f held.0 held.1 in
+      let here = subst (λ (o : Attributes). p.IsPlace f o.place) (sym (ap (or_blank f) held.1)) was.place in
+      c.again f (own_or_blank a.names f).place (dead_place a work.now f) other here refl refl
+
   so_version : (d : Done) (f : FileId) (stamp : Stamp) (ranges : RangesValue) → Far d → Far (make_version f stamp ranges d)
   so_version d f stamp ranges h =
       so_with p c n s d _ (with_version d.work (version_of d.store f stamp ranges)) h (sound_write p n s d.store h.store f stamp ranges)
       (record { left = refl; sent = refl; tail = refl })
 
-  -- ---- a new thing
-
-  module _ (kind : Kind) (text : List ℕ) (new : NewName) (found : new_name a (next_id a kind) text ≡ Ok new) (policy : Policy) (work : Work) (first : Far (idle a work)) (fresh : IsNewId p a (next_id a kind)) where
-    abbrev Id : FileId
-    Id = next_id a kind
-
-    abbrev Ready : Store
-    Ready = with_birth (with_id a)
-
-    ready : Sound p n s Ready
-    ready =
-        sound_alike p n s a k.sound Ready (record { servers = refl; tags = refl; names = refl; replicas = refl })
-        (births_as_before (with_id a) Ready (birth_as_before (with_id a)) (births_as_before a (with_id a) (id_as_before a) k.sound.births))
-        k.sound.keys k.sound.named.intents
-
-    may : MayBegin Ready Id (draw_birth (with_id a))
-    may = record {
-      away = fresh.away;
-      given = fresh_given a.births;
-      fill = λ f b t there. absurd (none-some (intent.Fill f b t) (sym fresh.gap ∙ there));
-    }
-
-    blank : IsSaidOwn p Id (blank_own Id)
-    blank = record { thing = fresh.thing; place = c.blank Id fresh.other fresh.thing; flags = All-nil p.IsFlag; order = IsByServer-nil }
-
-    so_begun : Far (idle (begun (with_id a) Id policy) work)
-    so_begun =
-        so_with p c n s (idle a work) (begun (with_id a) Id policy) work first
-        (sound_begun p n s Ready ready Id (draw_birth (with_id a)) policy (blank_own Id) true may IsByServer-nil blank)
-        (record { left = refl; sent = refl; tail = refl })
-
-    so_thing : Far (with_thing (with_id a) work Id policy new)
-    so_thing =
-        let d = idle (begun (with_id a) Id policy) work in
-        let place = place_in (with_id a) work.now new in
-        let placed = so_made p c n s d Id place (given_place (with_id a) Id work.now new fresh.other (name_found a Id text new found)) so_begun in
-        so_raised p c n s (make_place Id place d) Id mine placed
-
   -- ---- what is asked for
 
-  module _ (work : Work) (first : Far (idle a work)) where
-    so_fetched : (d : Done) (f : FileId) (wish : Wish) → Far d → Far (idle d.store (fetch d.store f wish d.work))
-    so_fetched d f wish h =
-        chosen (λ (w : Work). Far (idle d.store w)) (wish.target == 0) d.work _ h (so_sent p c n s d wish.target (message.Fetch f wish.birth) h tt)
+  so_wished : (f : FileId) → is_full a f ≡ false → standing a f ≡ None → (target : ℕ) → Far (idle a work)
+      → Far (idle (with_wish (with_birth a) f (fresh_wish a target)) work)
+  so_wished f missing none target first =
+      let b = with_birth a in
+      let given = births_as_before a b (birth_as_before a) k.sound.births in
+      let e = with_wish b f (fresh_wish a target) in
+      let gap = unfilled_at a f none in
+      let away = missing_away a f (λ x is less. k.fills f ∙ needed_comes a.names f (inl (x, is, less))) missing gap in
+      so_with p c n s (idle a work) e work first
+      (sound_alike p n s a k.sound e (record { servers = refl; tags = refl; names = refl; replicas = refl })
+      (wish_births b f (fresh_wish a target) given away gap (fresh_given a.births)) k.sound.keys k.sound.named.intents)
+      (record { left = refl; sent = refl; tail = refl })
 
-    module _ (f : FileId) (missing : is_full a f ≡ false) (none : standing a f ≡ None) where
-      gap : fill_at a f ≡ None
-      gap = no_fill f (fill_at a f) (wish_at a f) (λ i at. found_keyed (intent_key.Fill f) i a.intents at) none
+  -- ---- what begins
 
-      away_by : (t : Bool) → is_held a f ≡ t → is_held a f ≡ false
-      away_by false there = there
-      away_by true there =
-          let x = filling_by (known a.names f) there missing in
-          let stands = k.fills f ∙ needed_comes a.names f (inl (x.0, x.1, x.2)) in
-          absurd (false≢true (sym (ap is_some gap) ∙ stands))
+  so_begun : (b : Store) → Sound p n s b → (id : FileId) → is_held b id ≡ false → fill_at b id ≡ None → (policy : Policy) (own : Attributes)
+      → IsSaidOwn p id own → Far (idle a work) → Far (idle (begin (with_birth b) id (draw_birth b) policy own true) work)
+  so_begun b sound id away gap policy own here first =
+      let e = with_birth b in
+      let births = births_as_before b e (birth_as_before b) sound.births in
+      let same : AreAlike b e = record { servers = refl; tags = refl; names = refl; replicas = refl } in
+      let may : MayBegin e id (draw_birth b) = record {
+        away = away;
+        given = fresh_given b.births;
+        fill = λ f m t there. absurd (none-some (intent.Fill f m t) (sym gap ∙ there));
+      } in
+      so_with p c n s (idle a work) (begin e id (draw_birth b) policy own true) work first
+      (sound_begun p n s e (sound_alike p n s b sound e same births sound.keys sound.named.intents) id (draw_birth b) policy own true may here.order here)
+      (record { left = refl; sent = refl; tail = refl })
 
-      so_wished : (target : ℕ) → Far (idle (with_wish (with_birth a) f (fresh_wish a target)) work)
-      so_wished target =
-          let b = with_birth a in
-          let given = births_as_before a b (birth_as_before a) k.sound.births in
-          let e = with_wish b f (fresh_wish a target) in
-          so_with p c n s (idle a work) e work first
-          (sound_alike p n s a k.sound e (record { servers = refl; tags = refl; names = refl; replicas = refl })
-          (wish_births b f (fresh_wish a target) given (away_by (is_held a f) refl) gap (fresh_given a.births)) k.sound.keys k.sound.named.intents)
-          (record { left = refl; sent = refl; tail = refl })
+  -- a new thing has an id that nobody knows yet
+  fresh : (x : Call) → GivesNewIds p a x work → (kind : Kind) (policy : Policy) (text : List ℕ) (new : NewName) → new_name a (next_id a kind) text ≡ Ok new
+      → x ≡ making kind policy text → IsNewId p a (next_id a kind)
+  fresh x ids kind policy text new found is =
+      ids (name_in_time a (next_id a kind) text new found) kind (gives_one a x work kind policy text new is found)
 
-      so_first : (target : ℕ) → Far (ask_first a f target work)
-      so_first target =
-          let e = with_wish (with_birth a) f (fresh_wish a target) in
-          chosen Far (target == 0) (idle a work) (idle e (fetch a f (fresh_wish a target) work)) first
-          (so_fetched (idle e work) f (fresh_wish a target) (so_wished target))
+  so_new : (id : FileId) → IsNewId p a id → (policy : Policy) → Far (idle a work) → Far (idle (begun (with_id a) id policy) work)
+  so_new id is policy first =
+      let b = with_id a in
+      let births = births_as_before a b (id_as_before a) k.sound.births in
+      let same : AreAlike a b = record { servers = refl; tags = refl; names = refl; replicas = refl } in
+      so_begun b (sound_alike p n s a k.sound b same births k.sound.keys k.sound.named.intents) id is.away is.gap policy (blank_own id)
+      (record { thing = is.thing; place = c.blank id is.other is.thing; flags = All-nil p.IsFlag; order = IsByServer-nil }) first
 
-    so_asked : (found : Found) (o : Option Wish) → is_full a found.file ≡ false → standing a found.file ≡ o → Far (ask_by a found o work)
-    so_asked found None missing none = so_first found.file missing none (holder a found)
-    so_asked found (Some wish) missing there = so_fetched (idle a work) found.file wish first
+  -- ---- the place that a call makes
 
-    so_answered : {A : Type 0} (check : Result A LookupError) (next : A → Answer) → StopsAt (IsMissing a.names) check → ((x : A) → check ≡ Ok x → FarAnswer (next x)) → FarAnswer (answered a work check next)
-    so_answered (Err (stop.Refused why)) next stops each = first
-    so_answered (Err (stop.NotYet found)) next missing each = so_asked found (standing a found.file) missing refl
-    so_answered (Ok x) next stops each = each x refl
+  at_place : (f g : FileId) (place q : Place) → f ≡ g → place ≡ q → p.IsPlace g q → p.IsPlace f place
+  at_place f g place q same is here = subst (λ (x : FileId). p.IsPlace x place) (sym same) (subst (p.IsPlace g) (sym is) here)
 
-    so_looked : {A : Type 0} (check : Result A LookupError) (tell : A → Reply) → StopsAt (IsMissing a.names) check → FarAnswer (replied a work check tell)
-    so_looked check tell stops = so_answered check (λ x. told a work (tell x)) stops (λ x found. first)
+  new_place : (kind : Kind) (text : List ℕ) (file : FileId) (place : Place) → IsNewId p a (next_id a kind) → IsNew a work kind text file place → p.IsPlace file place
+  new_place kind text file place is of =
+      let id = next_id a kind in
+      at_place file id place (place_in (with_id a) work.now of.0) of.2 of.3 (given_place (with_id a) id work.now of.0 is.other (name_found a id text of.0 of.1))
 
-    -- ---- each call
+  made_place : (x : Call) → GivesNewIds p a x work → (b : Store) (file : FileId) (place : Place) → MakesPlace a work b x file place → p.IsPlace file place
+  made_place (call.Mkdir path) ids b file place of =
+      new_place Dir path file place (fresh (call.Mkdir path) ids Dir Last path of.0 of.1 refl) of
+  made_place (call.Create path policy) ids b file place of =
+      new_place File path file place (fresh (call.Create path policy) ids File policy path of.0 of.1 refl) of
+  made_place (call.Rename from to) ids b file place of =
+      let m = move_found a from to of.0 of.1 in
+      at_place file of.0.thing place (place_in a work.now of.0.to) of.2 of.3 (given_place a of.0.thing work.now of.0.to m.other m.free)
+  made_place (call.Unlink path) ids b file place of =
+      let m = file_found a path file of.0 in
+      subst (p.IsPlace file) (sym of.1) (so_taken_away file (full_own a.names file m.0) (file_apart file (is_same_file file root) refl m.1))
+  made_place (call.Rmdir path) ids b file place of =
+      let m = empty_found a path file of.0 in
+      subst (p.IsPlace file) (sym of.1) (so_taken_away file m.0 m.1)
+  made_place (call.Forget id) ids b file place of =
+      subst (p.IsPlace file) (sym of.1) (c.below file (root_place b work.now file) (lost_found a id file of.0) refl refl)
+  made_place x ids b file place of = absurd of
 
-    so_mkdir : (text : List ℕ) → GivesNewIds p a (call.Mkdir text) work → FarAnswer (do_call a (call.Mkdir text) work)
-    so_mkdir text ids =
-        let id = next_id a Dir in
-        let next = λ (new : NewName). answer (with_thing (with_id a) work id Last new) (reply.Made id) in
-        so_answered (new_name a id text) next (name_missing a id text)
-        (λ new found. so_thing Dir text new found Last work first
-        (ids (name_in_time a id text new found) Dir
-        (ap (λ (r : Result NewName LookupError). (answered a work r next).store.files) found ∙ thing_files (with_id a) work id Last new)))
+  -- ---- what is dropped, and what was lost
 
-    so_create : (text : List ℕ) (policy : Policy) → GivesNewIds p a (call.Create text policy) work → FarAnswer (do_call a (call.Create text policy) work)
-    so_create text policy ids =
-        let id = next_id a File in
-        let next = λ (new : NewName). answer (with_first_version id (with_thing (with_id a) work id policy new)) (reply.Made id) in
-        so_answered (new_name a id text) next (name_missing a id text)
-        (λ new found. (let d = with_thing (with_id a) work id policy new in
-        let fresh = ids (name_in_time a id text new found) File
-        (ap (λ (r : Result NewName LookupError). (answered a work r next).store.files) found ∙ thing_files (with_id a) work id policy new) in
-        so_version d id (drawn d.store d.work.now) first_ranges (so_thing File text new found policy work first fresh)))
+  leave_said : (x : Call) (file : FileId) (flag : Flag) → Drops a work x file → IsIntended p (leave_of file flag)
+  leave_said (call.Drop target) file flag of =
+      let g = dropped_found a target file of in (thing_of file (full_own a.names file g.full), c.child file g.other)
+  leave_said x file flag of = absurd of
 
-    so_rename : (from to : List ℕ) → FarAnswer (do_call a (call.Rename from to) work)
-    so_rename from to =
-        so_answered (move_of a from to) _ (move_missing a from to)
-        (λ move found. (let m = move_found a from to move found in
-        so_made p c n s (idle a work) move.thing (place_in a work.now move.to) (given_place a move.thing work.now move.to m.other m.free) first))
+  lost_other : (x : Call) (id : FileId) → IsLost a work x id → is_same_file id root ≡ false
+  lost_other (call.Forget f) id lost = lost_found a f id lost
+  lost_other x id lost = absurd lost
 
-    so_away : (f : FileId) → IsHeld a.names f → is_same_file f root ≡ false → Far (taken_away a work f)
-    so_away f held other =
-        let was = k.sound.named.said.own f held.0 held.1 in
-        let here = subst (λ (o : Attributes). p.IsPlace f o.place) (sym (ap (or_blank f) held.1)) was.place in
-        so_made p c n s (idle a work) f (dead_place a work.now f)
-        (c.again f (own_or_blank a.names f).place (dead_place a work.now f) other here refl refl) first
+  needed_thing : (id : FileId) → IsToFill a.names id → p.IsThing id
+  needed_thing id (inl x) = (k.sound.named.said.own id x.0.own (ap own_of x.1)).thing
+  needed_thing id (inr l) =
+      let was = k.sound.named.said.own l.child l.x.own (ap own_of l.held) in
+      subst p.IsThing l.parent (c.parent l.child l.x.own.place was.place).0
 
-    so_unlink : (text : List ℕ) → FarAnswer (do_call a (call.Unlink text) work)
-    so_unlink text =
-        so_answered (file_at a text) _ (file_missing a text)
-        (λ f found. (let m = file_found a text f found in so_away f (full_own a.names f m.0) (file_apart f (is_same_file f root) refl m.1)))
+  lost_thing : (id : FileId) → is_wanted a id ≡ true → p.IsThing id
+  lost_thing id wanted =
+      wanted_thing p a k.sound.named.said id k.sound.named.intents
+      (λ h. needed_thing id ((what_is_needed a.names id k.sound.named.tidy.keys).0 (sym (k.fills id) ∙ h))) wanted
 
-    so_rmdir : (text : List ℕ) → FarAnswer (do_call a (call.Rmdir text) work)
-    so_rmdir text =
-        so_answered (empty_dir_at a text) _ (empty_missing a text)
-        (λ d found. (let m = empty_found a text d found in so_away d m.0 m.1))
+  unwished_sound : (id : FileId) → Sound p n s (unwished a id)
+  unwished_sound id =
+      sound_alike p n s a k.sound (unwished a id) (record { servers = refl; tags = refl; names = refl; replicas = refl })
+      (births_as_before a (unwished a id) (gone_as_before a id) k.sound.births) k.sound.keys k.sound.named.intents
 
-    fits_missing : (ranges : RangesValue) (f : FileId) → StopsAt (IsMissing a.names) (when_fit a ranges f)
-    fits_missing ranges f =
-        stops_then (IsMissing a.names) (unless (is_too_long (replica_of a f) ranges) TooLong f) _
-        (stops_unless (IsMissing a.names) (is_too_long (replica_of a f) ranges) TooLong f refl)
-        (λ fit. stops_unless (IsMissing a.names) (has_many_actors (replica_of a fit) a.names.server) ManyActors fit refl)
+  -- ---- each piece
 
-    so_changed : (text : List ℕ) (ranges : RangesValue) → FarAnswer (change a text ranges work)
-    so_changed text ranges =
-        so_answered (file_at a text) (change_file a ranges work) (file_missing a text)
-        (λ f found. so_answered (when_fit a ranges f) _ (fits_missing ranges f)
-        (λ fit fits. so_version (idle a work) fit (drawn a work.now) ranges first))
+  keeps_far : (x : Call) → GivesNewIds p a x work → KeepsCalls a work x Far Far
+  keeps_far x ids = record {
+    wishes = λ found is h. (
+        let target = holder a found in
+        let e = with_wish (with_birth a) found.file (fresh_wish a target) in
+        so_sent p c n s (idle e work) target (message.Fetch found.file (draw_birth a)) (so_wished found.file is.missing is.none target h) tt);
+    asks = λ file wish is some h. so_sent p c n s (idle a work) wish.target (message.Fetch file wish.birth) h tt;
+    makes_new = λ kind policy text new is h. so_new (next_id a kind) (fresh x ids kind policy text new is.0 is.1) policy h;
+    makes_place = λ d file place of h. so_made p c n s d file place (made_place x ids d.store file place of) h;
+    makes_flag = λ d file raised of h. so_flagged p c n s d file raised mine h;
+    makes_version = λ d file ranges of h. so_version d file (drawn d.store d.work.now) ranges h;
+    begins_leave = λ file flag is h. so_begins p c n s (idle a work) (leave_of file flag) (λ q. refl) (leave_said x file flag is.1) h;
+    fills = λ d id lost h. so_filled p c n s mine d id h;
+    strikes = λ id dir is h.
+        so_with p c n s (idle a work) (unwished a id) (with_made work (update.Place id (dead_at a work.now id dir))) h (unwished_sound id)
+        (record { left = refl; sent = refl; tail = refl });
+    marks = λ d id dir to is h.
+        so_entry p c n s d to (bare_entry id (dead_at a work.now id dir))
+        (marked_said p a k.sound.named.said id c (lost_other x id is.0.lost) k.sound.whole.names.dirs work.now dir to is.1) h;
+    begins_lost = λ id own is away h.
+        so_begun (unfilled a id) (sound_ended p n s a k.sound (intent_key.Fill id)) id away (gap_behind a id) Last own
+        (anew_said p a k.sound.named.said id c (lost_other x id is.lost) own is.is (lost_thing id is.wanted)) h;
+    enters = λ view server is found h. so_entered p c n s (idle a work) server h;
+    leaves = λ d h. h;
+  }
 
-    so_timed : (tell : Unit {0} → Reply) → FarAnswer (replied a work (in_time a (tt {0})) tell)
-    so_timed tell = so_looked (in_time a (tt {0})) tell (stops_time (IsMissing a.names) a (tt {0}))
-
-    so_leaving : (f : FileId) (o : Option Flag) → IsToGo a f → FarAnswer (leaving a f work o)
-    so_leaving f None going = first
-    so_leaving f (Some flag) going =
-        so_begins p c n s (idle a work) (leave_of f flag) (λ q. refl) (thing_of f (full_own a.names f going.full), c.child f going.other) first
-
-    so_dropped : (t : Target) → FarAnswer (drop a t work)
-    so_dropped t =
-        so_answered (dropped_at a t) _ (dropped_missing a t)
-        (λ f found. so_leaving f (clean_gold a f) (dropped_found a t f found))
-
-    -- A CALL
-    pub so_called : (x : Call) → GivesNewIds p a x work → FarAnswer (do_call a x work)
-    so_called (call.Mkdir path) ids = so_mkdir path ids
-    so_called (call.Create path policy) ids = so_create path policy ids
-    so_called (call.Write path offset bytes) ids = so_changed path (written offset bytes)
-    so_called (call.Cut path length) ids = so_changed path (cut_to length)
-    so_called (call.Read path offset count) ids = so_looked (file_at a path) _ (file_missing a path)
-    so_called (call.Fresh path) ids = so_looked (file_at a path) _ (file_missing a path)
-    so_called (call.Ls path from) ids = so_looked (dir_at a path) _ (dir_missing a path)
-    so_called (call.Stat target) ids = so_looked (target_at a target) _ (target_missing a target)
-    so_called (call.Rename from to) ids = so_rename from to
-    so_called (call.Unlink path) ids = so_unlink path
-    so_called (call.Rmdir path) ids = so_rmdir path
-    so_called (call.Forget id) ids =
-        so_answered (lost_at a id) _ (lost_missing a id) (λ f found. so_lost p c n s mine a k work first f (lost_found a id f found))
-    so_called (call.Demote target) ids =
-        so_answered (demoted_at a target) _ (demoted_missing a target)
-        (λ f found. chosen Far (is_gold a f) (lower_flag a f work) (idle a work) (so_flagged p c n s (idle a work) f false mine first) first)
-    so_called (call.Drop target) ids = so_dropped target
-    so_called (call.Giveup view server) ids =
-        so_answered (removal_at a view server) _ (removal_missing a view server) (λ found at. so_entered p c n s (idle a work) server first)
-    so_called call.Status ids = so_timed _
-    so_called call.Stop ids = so_timed _
+  -- A CALL
+  pub so_called : Far (idle a work) → (x : Call) → GivesNewIds p a x work → Far (done_of (do_call a x work))
+  so_called first x ids = call_keeps a work Far Far x (keeps_far x ids) first

@@ -1,5 +1,5 @@
 -- What comes of each message: the server stays sound, and what is answered is said.
-use Rattle.std.proofs.Common.{ℕ, ◌≡◌, ◌==◌, ◌&&◌, ◌||◌, Bool, true, false, not, cond, nat_lt, eq-eqb, Some, refl, sym, ap, subst, ◌∙◌}
+use Rattle.std.proofs.Common.{ℕ, ◌≡◌, ◌==◌, ◌&&◌, Bool, true, false, not, eq-eqb, Some, refl, sym, ap, subst, ◌∙◌}
 use Rattle.std.proofs.lemmas.Bool.{and_parts, false≢true}
 use Rattle.std.proofs.lemmas.List.Elements.{All-contains}
 use Rattle.pg_run.specs.pg_base.declared.id.FileId.{FileId}
@@ -24,27 +24,22 @@ use Rattle.pg_run.specs.pg_register.Place.{blank_place, root}
 use Rattle.pg_run.specs.pg_replica.declared.replica.Replica.{Replica}
 use Rattle.pg_run.specs.pg_store.declared.store.Store.{Store}
 use Rattle.pg_run.specs.pg_store.Beginning.{let_go, with_intents}
-use Rattle.pg_run.specs.pg_store.Births.{birth_of, has_birth, is_pending, with_wishes}
-use Rattle.pg_run.specs.pg_store.Links.{knows_later, unlink}
+use Rattle.pg_run.specs.pg_store.Births.{birth_of, with_wishes}
+use Rattle.pg_run.specs.pg_store.Links.{unlink}
 use Rattle.pg_run.specs.pg_store.Store.{acknowledge, keep_delta, replica_at, with_names}
 use Rattle.pg_run.specs.pg_store.Wishes.{aim_wish}
 use Rattle.pg_run.proofs.pg_store.Aiming.{aim_births, aimed_births}
 use Rattle.pg_run.proofs.pg_store.Given.{pending_may}
-use Rattle.pg_run.specs.pg_pieces.declared.accepting.EdgeUse.TheVariants as manner
-use Rattle.pg_run.specs.pg_pieces.Accepting.{accept, ends_to, is_accepted, is_answer, with_gone}
+use Rattle.pg_run.specs.pg_pieces.Accepting.{ends_to}
 use Rattle.pg_run.specs.pg_pieces.Done.{Done, idle, link_of}
-use Rattle.pg_run.specs.pg_pieces.Making.{raise_flag}
-use Rattle.pg_run.specs.pg_pieces.Posting.{reply}
 use Rattle.pg_run.specs.pg_graph.Leaving.{bye_to, without_leave}
 use Rattle.pg_run.proofs.pg_graph.LeaveOk.{MayGo}
-use Rattle.pg_run.specs.pg_graph.Walks.{onward, walked}
 use Rattle.pg_run.specs.pg_repair.Fetching.{granted_from, place_to_grant}
-use Rattle.pg_run.specs.pg_repair.Filling.{few_golds, fill, live_golds}
 use Rattle.pg_run.specs.pg_repair.Granting.{begun_by, granted_own}
 use Rattle.pg_run.specs.pg_server.Local.{receive}
 use Rattle.pg_run.specs.pg_server.pg_transfer.Asking.{with_notes}
 use Rattle.pg_run.specs.theory_flood_pieces.Whole.{IsOther}
-use Rattle.pg_run.proofs.theory_flood_pieces.Choices.{chosen, decided}
+use Rattle.pg_run.proofs.theory_flood_pieces.Choices.{decided}
 use Rattle.pg_run.proofs.theory_flood_pieces.Together.{held_of_replica, own_of_held}
 use Rattle.law_frame.proofs.Keeps.{Answers, Keeps}
 use Rattle.law_frame.proofs.Received.{receive_keeps}
@@ -56,11 +51,6 @@ use Rattle.law_order.proofs.Pieces.{found_has}
 use Rattle.law_order.proofs.Sent.{own_said}
 use Rattle.law_order.proofs.Sounding.{Sound, sound_acknowledge, sound_alike, sound_begun, sound_ended, sound_filled, sound_unlink}
 use Rattle.law_order.proofs.Taking.{IsMember, SoFar, so_begins, so_entry, so_entry_cell, so_flag, so_link, so_place, so_raised, so_reply, so_sent, so_store, so_tail, so_version}
-
--- a walk that is back where it began
-abbrev comes_back : Store → Message → Bool
-comes_back a (message.Walk ends origin birth hops word) = origin == a.names.server
-comes_back a _ = false
 
 module _ (p : Saying) (c : IsClosed p) (n s : ℕ) (mine : IsMember p n s) where
   abbrev Far : Done → Type 0
@@ -81,14 +71,8 @@ module _ (p : Saying) (c : IsClosed p) (n s : ℕ) (mine : IsMember p n s) where
       sound_alike p n s a k (with_wishes a (aim_wish a.wishes f to)) (record { servers = refl; tags = refl; names = refl; replicas = refl })
       (aim_births a f to k.births) k.keys k.named.intents
 
-  so_filled : (d : Done) (f : FileId) → Far d → Far (idle (with_names d.store (fill_names d.store.names f)) d.work)
+  pub so_filled : (d : Done) (f : FileId) → Far d → Far (idle (with_names d.store (fill_names d.store.names f)) d.work)
   so_filled d f k = so_store p c n s d (with_names d.store (fill_names d.store.names f)) k (sound_filled p n s d.store k.store f)
-
-  pub so_fill : (d : Done) (f : FileId) → Far d → Far (fill d.store f d.work)
-  so_fill d f k =
-      let b = with_names d.store (fill_names d.store.names f) in
-      let here = so_filled d f k in
-      chosen Far (nat_lt (live_golds b f) few_golds) (raise_flag b f d.work) (idle b d.work) (so_raised p c n s (idle b d.work) f mine here) here
 
   -- ---- what is answered
 
@@ -144,14 +128,14 @@ module _ (p : Saying) (c : IsClosed p) (n s : ℕ) (mine : IsMember p n s) where
     leaves_said ends stamp may =
         found_has (IsIntended p) (intent_key.Leave ends.file) (intent.Leave ends.file w.from ends.sender) a.intents first.store.named.intents may.answered.stood
 
-    met : comes_back a m ≡ false → (ends : Ends) (origin birth hops word : ℕ) → m ≡ message.Walk ends origin birth hops word → IsOther n s origin
-    met away ends origin birth hops word is =
-        let apart : (origin == a.names.server) ≡ false = subst (λ (x : Message). comes_back a x ≡ false) is away in
+    -- the origin of a walk that goes on is another server
+    met : (ends : Ends) (origin birth hops word : ℕ) → m ≡ message.Walk ends origin birth hops word → (origin == a.names.server) ≡ false → IsOther n s origin
+    met ends origin birth hops word is apart =
         mine.others origin (subst (IsSaidOfMessage p) is said)
         (λ same. false≢true (sym apart ∙ eq-eqb origin a.names.server (same ∙ sym first.store.whole.server)))
 
-    keeps_far : comes_back a m ≡ false → Keeps a w m Far
-    keeps_far away = record {
+    keeps_far : Keeps a w m Far
+    keeps_far = record {
       cell_place = λ d ends tag x is here k. so_place p c n s d ends.file x (subst (IsSaidOfMessage p) is said) k;
       cell_flag = λ d ends tag g is here k. so_flag p c n s d ends.file g (subst (IsSaidOfMessage p) is said) k;
       cell_entry = λ d ends tag e sure is dir here k. so_entry_cell p c n s d ends.file e sure (subst (IsSaidOfMessage p) is said) k;
@@ -165,7 +149,7 @@ module _ (p : Saying) (c : IsClosed p) (n s : ℕ) (mine : IsMember p n s) where
       place_is = λ d dir e is held k. so_entry p c n s d dir e (subst (IsSaidOfMessage p) is said) k;
       tell = λ d dir e is held k. so_entry p c n s d dir e (subst (IsSaidOfMessage p) is said) k;
       links = λ d file birth is same k. so_link p c n s d file d.work.from birth (subst (IsOther n s) (sym same) other) k;
-      meets = λ d ends origin birth hops word is here k. so_link p c n s d ends.file origin birth (met away ends origin birth hops word is) k;
+      meets = λ d ends origin birth hops word is here k. so_link p c n s d ends.file origin birth (met ends origin birth hops word is here.1) k;
       unlinks = λ d file birth is same k.
           so_store p c n s d (unlink d.store file d.work.from birth) k (sound_unlink p n s d.store k.store file d.work.from birth);
       acknowledges = λ d ends q tag is same k. (
@@ -202,24 +186,6 @@ module _ (p : Saying) (c : IsClosed p) (n s : ℕ) (mine : IsMember p n s) where
           so_sent p c n s d e.peer (message.Harbinger (ends_to d.store ends.file e.birth) 0 head) k tt;
     }
 
-  -- a walk that is back ends here
-  so_back : (a : Store) (w : Work) (m : Message) → comes_back a m ≡ true → Far (idle a w) → Far (receive a m w)
-  so_back a w (message.Walk ends origin birth hops word) back k =
-      let on = walked a ends origin birth hops word (onward a ends.file w.from origin) w in
-      let late = knows_later a ends.file w.from ends.sender in
-      let gone = message.Gone ends.file ends.receiver in
-      chosen Far (is_accepted a w.from manner.Needs ends) (cond (origin == a.names.server) (idle a w) on) (accept a ends manner.Needs w)
-      (subst (λ (t : Bool). Far (cond t (idle a w) on)) (sym back) k)
-      (chosen Far (has_birth a ends.file ends.receiver) (cond late (idle a w) (idle a w)) (idle a (with_gone a ends manner.Needs w))
-      (chosen Far late (idle a w) (idle a w) k k)
-      (chosen (λ (v : Work). Far (idle a v)) (is_answer manner.Needs || is_pending a ends.file ends.receiver) w (reply a gone w) k
-      (so_reply p c n s (idle a w) gone k tt)))
-  so_back a w m none k = absurd (false≢true none)
-
   -- A MESSAGE
   pub so_received : (a : Store) (w : Work) (m : Message) → IsOther n s w.from → IsSaidOfMessage p m → Far (idle a w) → Far (receive a m w)
-  so_received a w m other said k = by (comes_back a m) refl
-    where
-      by : (t : Bool) → comes_back a m ≡ t → Far (receive a m w)
-      by true back = so_back a w m back k
-      by false away = receive_keeps a w Far m (keeps_far a w m other said k away) k
+  so_received a w m other said k = receive_keeps a w Far m (keeps_far a w m other said k) k

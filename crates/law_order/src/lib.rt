@@ -13,9 +13,9 @@
 //! - Invariants: `AreTidy` and `IsSound` (`specs/Sound`) of one server, `IsSoundSoFar`
 //!   (`proofs/Sent`) in the midst of an event, `AreSound` (`proofs/Runs`) of a world. `IsSettled`
 //!   is what the house rules leave.
-//! - `proofs/Pieces`, `Sounding` and `Taking` have a lemma for each piece of an event; `Received`
-//!   takes them along the walk of `law_frame` over messages, `Called` over what a call does;
-//!   `Ended` and `Intended` have what stands behind the first effect.
+//! - `proofs/Pieces`, `Sounding` and `Taking` have a lemma for each piece of an event; `Received`,
+//!   `Called` and `Intended` take them along the walks of `law_frame` over messages, calls and
+//!   intentions; `Ended` has what stands behind the first effect.
 //! - A new kind of message gets its case in what is said of a message (`IsSaidOfMessage`).
 #![tactic(auto)]
 

@@ -44,10 +44,10 @@ use Rattle.pg_run.specs.pg_register.Place.{blank_place, root}
 use Rattle.pg_run.specs.pg_replica.declared.replica.Replica.{Replica}
 use Rattle.pg_run.specs.pg_replica.Replica.{cell_at as head_at}
 use Rattle.pg_run.specs.pg_store.declared.store.Store.{Store}
-use Rattle.pg_run.specs.pg_store.declared.wishes.Wish.{Wish}
-use Rattle.pg_run.specs.pg_store.Births.{wish_at}
+use Rattle.pg_run.specs.pg_store.Births.{with_birth, with_wishes}
 use Rattle.pg_run.specs.pg_store.Cells.{cell_at, entry_cell, flag_cell, is_sure, version_cell}
-use Rattle.pg_run.specs.pg_store.Store.{content_of, is_held, with_names}
+use Rattle.pg_run.specs.pg_store.Store.{content_of, with_names}
+use Rattle.pg_run.specs.pg_store.Wishes.{without_wish}
 use Rattle.pg_run.specs.pg_pieces.Done.{Done, idle}
 use Rattle.pg_run.specs.pg_pieces.Making.{own_next, raise_flag}
 use Rattle.pg_run.specs.pg_pieces.Posting.{sent_to}
@@ -57,14 +57,14 @@ use Rattle.pg_run.specs.pg_cells.Ticks.{tick}
 use Rattle.pg_run.proofs.pg_cells.Settled.{settle_keeps}
 use Rattle.pg_run.specs.pg_intentions.Beginning.{end_others, still_stands}
 use Rattle.pg_run.specs.pg_intentions.Confirms.{confirm_of}
-use Rattle.pg_run.specs.pg_intentions.Fills.{fill_of, files_to_fill, with_fill_birth, without_wished}
+use Rattle.pg_run.specs.pg_intentions.Fills.{fill_of, files_to_fill, with_fill_birth}
 use Rattle.pg_run.specs.pg_intentions.Intending.{pieces}
 use Rattle.pg_run.specs.pg_intentions.Patches.{patch_of}
 use Rattle.pg_run.specs.pg_intentions.Requests.{ask_all, asked_of, asks, asks_by, confirm_message, leave_message, request}
 use Rattle.pg_run.specs.pg_intentions.Seeks.{seek_target}
 use Rattle.pg_run.specs.pg_server.Local.{intended, sent_at_end, settled}
 use Rattle.pg_run.proofs.Still.{flag_still}
-use Rattle.law_frame.proofs.Ended.{intents_keep}
+use Rattle.law_frame.proofs.Ended.{fill_born, intents_keep}
 use Rattle.law_places.proofs.Origins.{IsMade}
 use Rattle.law_places.proofs.Fine.{AreKnown, IsFine, as_before, intending, raised_flag, same_drawn}
 use Rattle.law_places.proofs.Leaving.{intent_begun}
@@ -174,14 +174,10 @@ module _ (P : FileId → Place → Type 0) (blanks : (f : FileId) → is_same_fi
 
   -- ---- intentions end and begin
 
-  wished_fine : (d : Done) (f : FileId) (o : Option Wish) → Fine d → Fine (idle (without_wished d.store f o) d.work)
-  wished_fine d f None k = as_before P s least d (idle (without_wished d.store f None) d.work) refl refl refl refl k
-  wished_fine d f (Some wish) k = as_before P s least d (idle (without_wished d.store f (Some wish)) d.work) refl refl refl refl k
-
   pub intended_fine : (d : Done) → Fine d → Fine (intended d)
-  intended_fine =
-      intents_keep Fine (record {
-        ends = λ d k. (
+  intended_fine d =
+      intents_keep d Fine (record {
+        ends = λ k. (
             let files = files_to_fill d.store.names in
             intending P s least d (end_others d.store files).intents
             (filter_is P (still_stands d.store files) d.store.intents k.known.intents) k);
@@ -190,8 +186,8 @@ module _ (P : FileId → Place → Type 0) (blanks : (f : FileId) → is_same_fi
         fills = λ d file none k. (
             let a = d.store in
             intent_begun P s least (idle (with_fill_birth a file) d.work) (fill_of a file d.work) tt
-            (chosen (λ (b : Store). Fine (idle b d.work)) (is_held a file) a (without_wished a file (wish_at a file)) k
-            (wished_fine d file (wish_at a file) k)));
+            (fill_born (λ (b : Store). Fine (idle b d.work)) a file k (as_before P s least d (idle (with_birth a) d.work) refl refl refl refl k)
+            (as_before P s least d (idle (with_wishes a (without_wish a.wishes file)) d.work) refl refl refl refl k)));
         seeks = λ d file none k. intent_begun P s least d (intent.Seek file (seek_target d.store file)) tt k;
         aims_seek = λ d file k. (
             let q = intent_key.Seek file in

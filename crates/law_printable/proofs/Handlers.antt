@@ -1,5 +1,5 @@
 -- What the pieces of a message keep: places that suit, and answers that do.
-use Rattle.std.proofs.Common.{ℕ, ◌≡◌, ◌&&◌, not, nat_lt, true, false, refl, inr}
+use Rattle.std.proofs.Common.{ℕ, ◌≡◌, ◌&&◌, not, true, false, refl, inr}
 use Rattle.std.proofs.lemmas.List.Elements.{All-push}
 use Rattle.pg_run.specs.pg_base.declared.id.FileId.{FileId}
 use Rattle.pg_run.specs.pg_intent.declared.key.IntentKey.{IntentKey}
@@ -18,14 +18,13 @@ use Rattle.pg_run.specs.pg_store.Beginning.{with_intents, let_go}
 use Rattle.pg_run.specs.pg_store.Store.{with_names}
 use Rattle.pg_run.specs.pg_house.Work.{is_root}
 use Rattle.pg_run.proofs.pg_house.Truths.{chosen}
-use Rattle.pg_run.specs.pg_pieces.Making.{lower_flag, make_flag, own_next, raise_flag}
+use Rattle.pg_run.specs.pg_pieces.Making.{make_flag, own_next, raise_flag}
 use Rattle.pg_run.specs.pg_pieces.Posting.{reply}
 use Rattle.pg_trace.specs.Suited.{SuitsUpdate}
 use Rattle.pg_run.proofs.pg_names.Gone.{gone_stayed}
 use Rattle.pg_run.specs.pg_pieces.Done.{idle}
 use Rattle.pg_run.specs.pg_repair.Confirming.{own_entry}
 use Rattle.pg_run.specs.pg_repair.Fetching.{place_to_grant}
-use Rattle.pg_run.specs.pg_repair.Filling.{few_golds, fill, live_golds, raise_if_few}
 use Rattle.law_printable.proofs.Intents.{aimed_suit}
 use Rattle.law_printable.proofs.Messages.{SuitsPost}
 use Rattle.law_printable.proofs.Places.{IsOwnPlace, NamesSuit, SuitsEntry, blank_suits, fill_suits, thing_place}
@@ -46,7 +45,7 @@ granted_place f p k =
 pub aimed_store : (s : Store) (k : IntentKey) (to : ℕ) → StoreSuits s → StoreSuits (with_intents s (aimed s.intents k to))
 aimed_store s k to h = intended_suits s h (aimed s.intents k to) (aimed_suit s.intents k to h.intents)
 
-raised_suits : (s : Store) (f : FileId) (g : Flag) (work : Work) → Suited s work → DoneSuits (make_flag s f g work)
+pub raised_suits : (s : Store) (f : FileId) (g : Flag) (work : Work) → Suited s work → DoneSuits (make_flag s f g work)
 raised_suits s f g work h =
     let made = with_made work (update.Flag f g) in
     flag_noted s made
@@ -60,23 +59,12 @@ raised_suits s f g work h =
       };
     }) f g
 
-pub flag_lowered : (s : Store) (f : FileId) (work : Work) → Suited s work → DoneSuits (lower_flag s f work)
-flag_lowered s f work h = raised_suits s f (own_next s f false) work h
-
 pub flag_raised : (s : Store) (f : FileId) (work : Work) → Suited s work → DoneSuits (raise_flag s f work)
 flag_raised s f work h = raised_suits s f (own_next s f true) work h
-
-few_suits : (s : Store) (f : FileId) (work : Work) → Suited s work → DoneSuits (raise_if_few s f work)
-few_suits s f work h =
-    chosen DoneSuits (nat_lt (live_golds s f) few_golds) (raise_flag s f work) (idle s work) (flag_raised s f work h) h
 
 pub full_suits : (s : Store) (f : FileId) (work : Work) → Suited s work → Suited (with_names s (names.fill s.names f)) work
 full_suits s f work h =
     record { store = named_suits s h.store (names.fill s.names f) (fill_suits s.names f h.store.names); work = h.work }
-
-pub filled_suits : (s : Store) (f : FileId) (work : Work) → Suited s work → DoneSuits (fill s f work)
-filled_suits s f work h =
-    few_suits (with_names s (names.fill s.names f)) f work (full_suits s f work h)
 
 -- what is known of a thing but the root is an entry for it
 pub own_entry_suits : (s : Store) (f : FileId) → StoreSuits s → is_root f ≡ false → SuitsEntry f (own_entry s f)

@@ -96,7 +96,7 @@ first_made a (input.Call moment c) =
     let w = new_work moment 0 in
     call_sends (λ (v : Work). All (IsOfGoing a asked) v.made) (made_closed a asked) a w
     (record {
-      place = λ f p how h. All-push (IsOfGoing a asked) w.made (update.Place f p) h (elim how [ inl live ↦ live_made a asked f p live | inr goes ↦ gone_made a asked f p goes ]);
+      place = λ v f p how h. All-push (IsOfGoing a asked) v.made (update.Place f p) h (elim how [ inl live ↦ live_made a asked f p live | inr goes ↦ gone_made a asked f p goes ]);
       version = λ v u h. All-push (IsOfGoing a asked) v.made (update.Version u) h (version_made a asked u);
     }) (All-nil (IsOfGoing a asked)) c
 first_made a (input.Tick moment word) =

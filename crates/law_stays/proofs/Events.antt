@@ -1,5 +1,5 @@
 -- Each part of an event keeps who a server is, and so an event does.
-use Rattle.std.proofs.Common.{[], ℕ, true, false, List, ◌∷◌, drop, length, Option, None, Some, refl}
+use Rattle.std.proofs.Common.{[], ℕ, true, false, List, ◌∷◌, drop, length, refl}
 use Rattle.pg_run.specs.pg_base.declared.id.FileId.{FileId}
 use Rattle.pg_run.specs.pg_base.declared.policy.Policy.TheVariants.{Last}
 use Rattle.pg_run.specs.pg_call.declared.call.Call.{Call}
@@ -23,17 +23,14 @@ use Rattle.pg_run.specs.pg_server.declared.input.Input.{Input}
 use Rattle.pg_run.specs.pg_server.declared.input.Input.TheVariants as input
 use Rattle.pg_run.specs.pg_server.Local.{effect, intended, receive, settled}
 use Rattle.pg_run.specs.pg_store.declared.store.Store.{Store}
-use Rattle.pg_run.specs.pg_store.declared.wishes.Wish.{Wish}
-use Rattle.pg_run.specs.pg_store.Births.{draw_birth, wish_at, with_birth}
-use Rattle.pg_run.specs.pg_store.Store.{is_held, touch, with_names}
+use Rattle.pg_run.specs.pg_store.Births.{draw_birth, with_birth}
+use Rattle.pg_run.specs.pg_store.Store.{touch, with_names}
 use Rattle.pg_run.proofs.Event.{Comes, store_kept}
 use Rattle.pg_run.proofs.pg_cells.Settled.{settle_keeps}
 use Rattle.pg_run.proofs.pg_house.Keys.{rules_by}
 use Rattle.pg_run.proofs.pg_names.Lookups.{update_frame}
-use Rattle.pg_run.proofs.theory_flood_pieces.Choices.{chosen}
-use Rattle.pg_run.specs.pg_intentions.Fills.{without_wished}
 use Rattle.law_frame.proofs.Called.{call_keeps}
-use Rattle.law_frame.proofs.Ended.{intents_keep}
+use Rattle.law_frame.proofs.Ended.{fill_born, intents_keep}
 use Rattle.law_frame.proofs.Keeps.{Keeps}
 use Rattle.law_frame.proofs.KeepsCalls.{KeepsCalls}
 use Rattle.law_frame.proofs.Received.{receive_keeps}
@@ -137,18 +134,12 @@ module _ (first : Store) where
       settle_keeps (λ (a : Store) (w : Work). Same a) ruled_same
       (λ a file w less h. same_flag first a file (own_next a file true) h) d.store d.work k
 
-  wished_same : (a : Store) (file : FileId) (o : Option Wish) → Same a → Same (without_wished a file o)
-  wished_same a file None k = k
-  wished_same a file (Some wish) k = k
-
   intended_same : (d : Done) → Same d.store → Same (intended d).store
-  intended_same =
-      intents_keep Left (record {
-        ends = λ d k. k;
+  intended_same d =
+      intents_keep d Left (record {
+        ends = λ k. k;
         patches = λ d slot away k. k;
-        fills = λ d file none k. (
-            let a = d.store in
-            chosen Same (is_held a file) a (without_wished a file (wish_at a file)) k (wished_same a file (wish_at a file) k));
+        fills = λ d file none k. fill_born Same d.store file k k k;
         seeks = λ d file none k. k;
         aims_seek = λ d file k. k;
         confirms = λ d slot doubted k. k;

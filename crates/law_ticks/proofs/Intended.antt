@@ -1,26 +1,23 @@
 -- What the end of an event does to a server's store: what each piece keeps, the intentions that end
 -- and begin keep, and the house rules.
-use Rattle.std.proofs.Common.{true, Option, None, Some, refl}
-use Rattle.pg_run.specs.pg_base.declared.id.FileId.{FileId}
+use Rattle.std.proofs.Common.{true, refl}
 use Rattle.pg_run.specs.pg_intent.declared.intent.Intent.{Intent}
 use Rattle.pg_run.specs.pg_intent.declared.intent.Intent.TheVariants as intent
 use Rattle.pg_run.specs.pg_msg.declared.work.Work.{Work}
 use Rattle.pg_run.specs.pg_store.declared.store.Store.{Store}
-use Rattle.pg_run.specs.pg_store.declared.wishes.Wish.{Wish}
-use Rattle.pg_run.specs.pg_store.Births.{wish_at}
-use Rattle.pg_run.specs.pg_store.Store.{is_held}
+use Rattle.pg_run.specs.pg_store.Births.{with_birth, with_wishes}
+use Rattle.pg_run.specs.pg_store.Wishes.{without_wish}
 use Rattle.pg_run.specs.pg_pieces.Done.{Done, idle}
 use Rattle.pg_run.specs.pg_pieces.Making.{own_next}
 use Rattle.pg_run.specs.pg_cells.Settling.{settle}
 use Rattle.pg_run.proofs.pg_cells.Settled.{settle_keeps}
 use Rattle.pg_run.specs.pg_intentions.Beginning.{begin_end, end_others}
 use Rattle.pg_run.specs.pg_intentions.Confirms.{confirm_of}
-use Rattle.pg_run.specs.pg_intentions.Fills.{fill_of, files_to_fill, with_fill_birth, without_wished}
+use Rattle.pg_run.specs.pg_intentions.Fills.{fill_of, files_to_fill, with_fill_birth}
 use Rattle.pg_run.specs.pg_intentions.Intending.{begin_intent}
 use Rattle.pg_run.specs.pg_intentions.Patches.{patch_of}
 use Rattle.pg_run.specs.pg_intentions.Seeks.{aim_seek, seek_target}
-use Rattle.pg_run.proofs.theory_flood_pieces.Choices.{chosen}
-use Rattle.law_frame.proofs.Ended.{intents_keep}
+use Rattle.law_frame.proofs.Ended.{fill_born, intents_keep}
 use Rattle.law_ticks.proofs.Pieces.{OutlivesPieces}
 
 module _ (P : Store → Type 0) (k : OutlivesPieces P) where
@@ -32,24 +29,20 @@ module _ (P : Store → Type 0) (k : OutlivesPieces P) where
   began : (d : Done) (i : Intent) → Left d → Left (begin_intent d.store i d.work)
   began d i h = k.beside d.store (begin_intent d.store i d.work).store refl refl h
 
-  wished_left : (a : Store) (f : FileId) (o : Option Wish) → P a → P (without_wished a f o)
-  wished_left a f None h = k.beside a (without_wished a f None) refl refl h
-  wished_left a f (Some wish) h = k.beside a (without_wished a f (Some wish)) refl refl h
-
   pub intended_left : (a : Store) (work : Work) → P a → Left (begin_end a work)
   intended_left a work h =
-      intents_keep Left (record {
-        ends = λ d so. k.beside d.store (end_others d.store (files_to_fill d.store.names)) refl refl so;
+      intents_keep (idle a work) Left (record {
+        ends = λ so. k.beside a (end_others a (files_to_fill a.names)) refl refl so;
         patches = λ d slot away so. began d (patch_of d.store slot d.work) so;
         fills = λ d file none so. (
             let b = d.store in
             began (idle (with_fill_birth b file) d.work) (fill_of b file d.work)
-            (chosen P (is_held b file) b (without_wished b file (wish_at b file)) so
-            (wished_left b file (wish_at b file) so)));
+            (fill_born P b file so (k.beside b (with_birth b) refl refl so)
+            (k.beside b (with_wishes b (without_wish b.wishes file)) refl refl so)));
         seeks = λ d file none so. began d (intent.Seek file (seek_target d.store file)) so;
         aims_seek = λ d file so. k.beside d.store (aim_seek d.store file) refl refl so;
         confirms = λ d slot doubted so. began d (confirm_of d.store slot) so;
-      }) (idle a work) h
+      }) h
 
   -- ---- the house rules run, and flags are raised
 

@@ -79,7 +79,7 @@ module _ (sender : ℕ) where
 
 pub first_from : (a : Store) (asked : Input) → (first_effect a asked).work.from ≡ sender_in asked
 first_from a (input.Call moment c) =
-    call_sends (IsFrom 0) (from_closed 0) a (new_work moment 0) (record { place = λ f p so h. h; version = λ v u h. h }) refl c
+    call_sends (IsFrom 0) (from_closed 0) a (new_work moment 0) (record { place = λ v f p so h. h; version = λ v u h. h }) refl c
 first_from a (input.Tick moment word) =
     let w = new_work moment 0 in
     let b = without_sources a in

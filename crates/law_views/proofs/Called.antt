@@ -1,6 +1,8 @@
 -- What comes of each call but one: wishes that ask live servers, and messages in the server's view.
 use Rattle.std.proofs.Common.{ℕ, ◌≡◌, false, true, List, refl, ap, sym, ◌∙◌}
 use Rattle.std.proofs.lemmas.Bool.{false≢true}
+use Rattle.pg_run.specs.pg_call.declared.reply.Reply.TheVariants as reply
+use Rattle.pg_run.specs.pg_call.declared.refusal.Refusal.TheVariants.{NotYet}
 use Rattle.pg_run.specs.pg_base.declared.id.FileId.{FileId}
 use Rattle.pg_run.specs.pg_base.declared.policy.Policy.TheVariants.{Last}
 use Rattle.pg_run.specs.pg_call.declared.call.Call.{Call}
@@ -16,7 +18,7 @@ use Rattle.pg_run.specs.pg_names.Names.{blank_own}
 use Rattle.pg_run.specs.pg_patch.Ranges.{RangesValue}
 use Rattle.pg_run.specs.pg_store.declared.store.Store.{Store}
 use Rattle.pg_run.specs.pg_store.Births.{draw_birth, with_birth, with_wish}
-use Rattle.pg_run.specs.pg_store.Store.{write}
+use Rattle.pg_run.specs.pg_store.Store.{write, is_full}
 use Rattle.pg_run.specs.pg_store.Wishes.{without_wish}
 use Rattle.pg_run.specs.pg_pieces.Done.{Done, idle}
 use Rattle.pg_run.specs.pg_pieces.Making.{own_next}
@@ -88,8 +90,9 @@ module _ (n s : ℕ) (R : List ℕ) where
     }
 
     -- one that does not go on
-    pub denied : (why : LookupError) → Fine (idle (deny a why w).store (deny a why w).work)
-    denied why = calls.denied a w Fine Fine call.Status (keeps_fine call.Status refl) first why
+    pub denied : (why : LookupError) → ((file : FileId) → (deny a why w).reply ≡ reply.Refused (NotYet file) → is_full a file ≡ false)
+        → Fine (idle (deny a why w).store (deny a why w).work)
+    denied why missing = calls.denied a w Fine Fine call.Status (keeps_fine call.Status refl) first why missing
 
     -- ANY CALL but one
     pub call_fine : (c : Call) → is_giveup c ≡ false → Fine (idle (do_call a c w).store (do_call a c w).work)

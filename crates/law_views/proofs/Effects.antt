@@ -7,6 +7,8 @@ use Rattle.std.proofs.lemmas.Bool.{and_parts}
 use Rattle.std.proofs.lemmas.List.Elements.{All-append, All-nil, All-weaker}
 use Rattle.std.proofs.lemmas.Option.{none-some, same_Some}
 use Rattle.std.specs.List.{flat_map}
+use Rattle.pg_run.proofs.pg_calls.Refused.{refused_only_asks}
+use Rattle.pg_run.specs.pg_call.declared.refusal.Refusal.TheVariants.{NotYet}
 use Rattle.pg_run.specs.pg_base.declared.id.FileId.{FileId}
 use Rattle.pg_run.specs.pg_edges.declared.edge.Edge.{Edge}
 use Rattle.pg_run.specs.pg_announced.Announced.{released}
@@ -46,7 +48,7 @@ use Rattle.pg_run.specs.pg_cells.Sending.{Wanted, cell_to, cells_where, is_any, 
 use Rattle.pg_run.specs.pg_cells.Ticks.{tick}
 use Rattle.pg_run.specs.pg_intentions.Inviting.{invite_along, invite_each, invite_of, invites, loose_edge}
 use Rattle.pg_run.specs.pg_intentions.Requests.{ask_all, asks, asks_by, confirm_message, leave_message, request}
-use Rattle.pg_run.specs.pg_checks.Answer.{Answer, answer, answered, told, unless}
+use Rattle.pg_run.specs.pg_checks.Answer.{Answer, answer, answered, told, unless, deny}
 use Rattle.pg_run.specs.pg_checks.Checks.{in_time}
 use Rattle.pg_run.proofs.pg_calls.Checked.{behind, unless_ok}
 use Rattle.pg_run.specs.pg_calls.GivingUp.{doubt_all, enter_view, may_give_up, removal_at}
@@ -208,7 +210,10 @@ module _ (n s : ℕ) (a : Store) (k : IsSeen n s a.names.removed a) (together : 
         → Goes n s a Asked (done_of (answered a W o (λ found. answer (enter_view a server W) reply.Done)))
     by_removal (Err why) is =
         let next : Unit {0} → Answer = λ found. told a W reply.Done in
-        stays Asked (done_of (answered a W (Err why) next)) (denied n s Now a W (begins moment 0) flags why)
+        let goes : Unit {0} → Answer = λ x. answer (enter_view a server W) reply.Done in
+        let missing = λ (file : FileId) (e : (deny a why W).reply ≡ reply.Refused (NotYet file)). (refused_only_asks a (call.Giveup number server) W (NotYet file)
+        (ap (λ (o : Result (Unit {0}) LookupError). (answered a W o goes).reply) is ∙ e)).missing file refl in
+        stays Asked (done_of (answered a W (Err why) next)) (denied n s Now a W (begins moment 0) flags why missing)
         (subst (All (IsSent n s Now)) (sym (answered_same a W (Err why) next (λ found. refl))) (All-nil (IsSent n s Now)))
     by_removal (Ok found) is =
         let b = enter a server in

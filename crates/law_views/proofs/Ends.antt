@@ -1,7 +1,6 @@
 -- What stands behind the first effect of an event keeps what is seen of the server: the house
 -- rules, and the intentions that end and begin.
-use Rattle.std.proofs.Common.{[], ℕ, true, List, ◌∷◌, drop, length, Option, None, Some}
-use Rattle.pg_run.specs.pg_base.declared.id.FileId.{FileId}
+use Rattle.std.proofs.Common.{[], ℕ, true, List, ◌∷◌, drop, length}
 use Rattle.pg_run.specs.pg_house.House.{house}
 use Rattle.pg_run.specs.pg_house.Work.{state_of}
 use Rattle.pg_run.proofs.pg_house.Keys.{rules_by}
@@ -12,9 +11,7 @@ use Rattle.pg_run.specs.pg_intent.Intents.{aimed, begun}
 use Rattle.pg_run.specs.pg_msg.declared.work.Touched.{Touched}
 use Rattle.pg_run.specs.pg_msg.declared.work.Work.{Work}
 use Rattle.pg_run.specs.pg_store.declared.store.Store.{Store}
-use Rattle.pg_run.specs.pg_store.declared.wishes.Wish.{Wish}
-use Rattle.pg_run.specs.pg_store.Births.{wish_at}
-use Rattle.pg_run.specs.pg_store.Store.{is_held, touch, with_names}
+use Rattle.pg_run.specs.pg_store.Store.{touch, with_names}
 use Rattle.pg_run.specs.pg_store.Wishes.{without_wish}
 use Rattle.pg_run.specs.pg_pieces.Done.{Done}
 use Rattle.pg_run.specs.pg_pieces.Making.{own_next}
@@ -22,13 +19,12 @@ use Rattle.pg_run.specs.pg_cells.Settling.{rules, touch_all}
 use Rattle.pg_run.proofs.pg_cells.Settled.{settle_keeps}
 use Rattle.pg_run.specs.pg_intentions.Beginning.{end_others}
 use Rattle.pg_run.specs.pg_intentions.Confirms.{confirm_of}
-use Rattle.pg_run.specs.pg_intentions.Fills.{fill_of, files_to_fill, with_fill_birth, without_wished}
+use Rattle.pg_run.specs.pg_intentions.Fills.{fill_of, files_to_fill, with_fill_birth}
 use Rattle.pg_run.specs.pg_intentions.Intending.{begin_intent}
 use Rattle.pg_run.specs.pg_intentions.Patches.{patch_of}
 use Rattle.pg_run.specs.pg_intentions.Seeks.{seek_target}
 use Rattle.pg_run.specs.pg_server.Local.{intended, settled}
-use Rattle.pg_run.proofs.theory_flood_pieces.Choices.{chosen}
-use Rattle.law_frame.proofs.Ended.{intents_keep}
+use Rattle.law_frame.proofs.Ended.{fill_born, intents_keep}
 use Rattle.law_views.proofs.Seen.{IsSeen, less_wish, seen_birth, seen_fewer, seen_flag, seen_intents, seen_names, seen_touch}
 
 module _ (n s : ℕ) (R : List ℕ) where
@@ -60,20 +56,16 @@ module _ (n s : ℕ) (R : List ℕ) where
   begun_seen : (a : Store) (i : Intent) (w : Work) → Seen a → Left (begin_intent a i w)
   begun_seen a i w k = seen_intents n s R a (begun a.intents i) k
 
-  wished_seen : (a : Store) (file : FileId) (o : Option Wish) → Seen a → Seen (without_wished a file o)
-  wished_seen a file None k = seen_birth n s R a k
-  wished_seen a file (Some wish) k =
-      seen_fewer n s R a (without_wish a.wishes file) (λ q w there. less_wish n s R a file q w there) k
-
   pub intended_seen : (d : Done) → Seen d.store → Seen (intended d).store
-  intended_seen =
-      intents_keep Left (record {
-        ends = λ d k. seen_intents n s R d.store (end_others d.store (files_to_fill d.store.names)).intents k;
+  intended_seen d =
+      intents_keep d Left (record {
+        ends = λ k. seen_intents n s R d.store (end_others d.store (files_to_fill d.store.names)).intents k;
         patches = λ d slot away k. begun_seen d.store (patch_of d.store slot d.work) d.work k;
         fills = λ d file none k. (
             let a = d.store in
             begun_seen (with_fill_birth a file) (fill_of a file d.work) d.work
-            (chosen Seen (is_held a file) a (without_wished a file (wish_at a file)) k (wished_seen a file (wish_at a file) k)));
+            (fill_born Seen a file k (seen_birth n s R a k)
+            (seen_fewer n s R a (without_wish a.wishes file) (λ q w there. less_wish n s R a file q w there) k)));
         seeks = λ d file none k. begun_seen d.store (intent.Seek file (seek_target d.store file)) d.work k;
         aims_seek = λ d file k.
             seen_intents n s R d.store (aimed d.store.intents (intent_key.Seek file) (seek_target d.store file)) k;

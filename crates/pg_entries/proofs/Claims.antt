@@ -44,11 +44,11 @@ lesser_beats : (first : Option Claim) (o c : Claim) → is_lt (claim_cmp (lesser
 lesser_beats None o c = refl
 lesser_beats (Some b) o c = least_by b o c (is_lt (claim_cmp o b)) (is_lt (claim_cmp b c)) (is_lt (claim_cmp o c)) refl refl refl
 
-take_beats_by : (first : Option Claim) (e : Entry) (c : Claim) (t : Bool) → is_beaten (cond t (Some (lesser first (claim_of e))) first) c ≡ (is_beaten first c || (t && is_lt (claim_cmp (claim_of e) c)))
+pub take_beats_by : (first : Option Claim) (e : Entry) (c : Claim) (t : Bool) → is_beaten (cond t (Some (lesser first (claim_of e))) first) c ≡ (is_beaten first c || (t && is_lt (claim_cmp (claim_of e) c)))
 take_beats_by first e c true = lesser_beats first (claim_of e) c
 take_beats_by first e c false = sym (or-false (is_beaten first c))
 
-fold_beats : (dir : FileId) (name : List ℕ) (c : Claim) (es : List Entry) (first : Option Claim) → is_beaten (fold (take_claim dir name) first es) c ≡ (is_beaten first c || list_any (λ o. is_rival dir name o && is_lt (claim_cmp (claim_of o) c)) es)
+pub fold_beats : (dir : FileId) (name : List ℕ) (c : Claim) (es : List Entry) (first : Option Claim) → is_beaten (fold (take_claim dir name) first es) c ≡ (is_beaten first c || list_any (λ o. is_rival dir name o && is_lt (claim_cmp (claim_of o) c)) es)
 fold_beats dir name c [] first = sym (or-false (is_beaten first c))
 fold_beats dir name c (e ∷ es) first =
     fold_beats dir name c es (take_claim dir name first e)

@@ -27,7 +27,7 @@ not_before es dir a b plain at listed same =
     let rival : is_rival dir a.place.name b ≡ true = and_from (is_listed dir b) _ listed (same_name-is b.place.name a.place.name same) in
     sym (ap (λ t. t && is_lt (claim_cmp (claim_of b) (claim_of a))) rival) ∙ none_passes (λ (o : Entry). is_rival dir a.place.name o && is_lt (claim_cmp (claim_of o) (claim_of a))) (values_of es) b plain at
 
-tied_by : (x y : Ordering) → x ≡ ordering_reverse y → is_lt x ≡ false → is_lt y ≡ false → x ≡ Equal
+pub tied_by : (x y : Ordering) → x ≡ ordering_reverse y → is_lt x ≡ false → is_lt y ≡ false → x ≡ Equal
 tied_by x Less e h k = cc
 tied_by x Equal e h k = e
 tied_by x Greater e h k = (let z : is_lt x ≡ true = ap is_lt e in cc)

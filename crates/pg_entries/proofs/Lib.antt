@@ -4,3 +4,6 @@ pub mod Tildes
 pub mod Differ
 pub mod Found
 pub mod InOrder
+pub mod Tails
+pub mod Indexing
+pub mod Finding

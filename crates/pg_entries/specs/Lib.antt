@@ -3,3 +3,4 @@ pub mod EntriesInside
 pub mod Names
 pub mod Shown
 pub mod Firsts
+pub mod Slots

@@ -1,27 +1,32 @@
 //! What a directory knows of its children.
 
-ghost use Rattle.std.specs.Prelude.{◌≡◌, ◌≢◌, ◌↔◌, [], IfOk, OnOk, OnErr, IsTrue, length, slice_get, true, IfSome, IfNone};
-ghost use Rattle.std.specs.List.{find};
-ghost use Rattle.std.specs.Ordering.{is_lt};
+ghost use Rattle.std.specs.Prelude.{◌≡◌, ◌≢◌, ◌↔◌, [], Some, IfOk, OnOk, OnErr, IsTrue, length, slice_get, true, IfSome, IfNone};
 ghost use Rattle.std.specs.Option.{option_copied, option_map};
-ghost use Rattle.std.specs.Map.{values_of};
+ghost use Rattle.pg_base.specs.declared.id.FileId.{FileId};
+ghost use Rattle.pg_index.specs.Ids.{is_one_of};
+ghost use Rattle.pg_entries.specs.declared.entry.Entry.{Entry};
 ghost use Rattle.pg_entries.specs.Entry.{IsByChild, brings, count_listed, covers_entry, entry_of, is_listed, join_entry, lists, lists_any, put_entry};
 ghost use Rattle.pg_entries.specs.Shown.{claim_of, find_of, first_claim, is_beaten, is_hidden, is_rival, lesser, shows};
 ghost use Rattle.pg_entries.specs.Names.{same_name};
+ghost use Rattle.pg_entries.specs.Slots.{AreFit, lesser_of, shown_by, take_listed};
 
 use crate::claim::Claim;
 use crate::entry::Entry;
-use crate::tilde::is_with_id;
+use crate::named::{index_of, leave, slots_of_join, slots_of_put};
+use crate::slot::slot_of;
+use crate::tilde::{id_behind, is_with_id};
 use pg_base::FileId;
+use pg_index::Lists;
 use std::alloc::{AllocError, Global};
 use std::collections::BTreeMap;
 use std::marker::Model;
 
-/// The entries of a directory, one for each child, by child.
+/// The entries of a directory, one for each child, by child, and an index of them by name.
 #[derive(Debug, Drop)]
 pub struct Entries {
     pub(crate) alloc: Global,
     pub(crate) entries: BTreeMap<FileId, Entry>,
+    pub(crate) named: Lists,
 }
 
 impl Model for Entries {
@@ -31,11 +36,11 @@ impl Model for Entries {
 
     ghost Value = { List (FileId × Entry) };
 
-    ghost use Rattle.pg_entries.specs.EntriesInside.{AreOwn};
+    ghost use Rattle.pg_entries.specs.EntriesInside.{IsIndexed};
 
     ghost view = { λ s. s.entries.entries };
 
-    ghost invariant = { AreOwn };
+    ghost invariant = { IsIndexed };
 }
 
 impl Entries {
@@ -46,6 +51,7 @@ impl Entries {
         Entries {
             alloc,
             entries: BTreeMap::new(alloc),
+            named: Lists::new(alloc),
         }
     }
 
@@ -126,10 +132,17 @@ impl Entries {
         ensures news { IfOk result (λ new. new ≡ brings (entry_of self.old entry.child) entry) }
         ensures changed { IfOk result (λ changed. IsTrue changed ↔ (self.new ≢ self.old)) }
     {
-        match self.entries.get_mut(&entry.child) {
-            Some(held) => Ok(held.join(entry)?),
+        let child = entry.child;
+        let slots = slots_of_join(&self.entries, &entry);
+        self.named.insert(slots.next, child)?;
+        match self.entries.get_mut(&child) {
+            Some(held) => {
+                let changed = held.take(entry)?;
+                leave(&mut self.named, &slots, &child);
+                Ok(changed)
+            }
             None => {
-                self.entries.insert(entry.child, entry)?;
+                self.entries.insert(child, entry)?;
                 Ok(true)
             }
         }
@@ -140,7 +153,11 @@ impl Entries {
         ensures ok { OnOk result (self.new ≡ put_entry self.old entry) }
         ensures err { OnErr result (self.new ≡ self.old) }
     {
-        self.entries.insert(entry.child, entry)?;
+        let child = entry.child;
+        let slots = slots_of_put(&self.entries, &entry);
+        self.named.insert(slots.next, child)?;
+        self.entries.insert(child, entry)?;
+        leave(&mut self.named, &slots, &child);
         Ok(())
     }
 
@@ -148,11 +165,11 @@ impl Entries {
     pub fn find(&self, dir: FileId, shown: &[u8]) -> Option<FileId>
         ensures { result ≡ find_of self.now dir shown.now }
     {
+        self.keeps();
         let first = self.first_claim(dir, shown);
-        match self.showing(dir, shown, &first) {
-            Some(entry) => Some(entry.child),
-            None => None,
-        }
+        let plain = self.showing(dir, shown, &first, claimant(&first));
+        let tilde = self.showing(dir, shown, &first, id_behind(shown));
+        lesser_id(plain, tilde)
     }
 
     /// Copies the entries.
@@ -162,6 +179,7 @@ impl Entries {
         Ok(Entries {
             alloc: self.alloc,
             entries: self.entries.clone()?,
+            named: index_of(self.alloc, &self.entries)?,
         })
     }
 
@@ -169,23 +187,70 @@ impl Entries {
     pub(crate) fn first_claim(&self, dir: FileId, name: &[u8]) -> Option<Claim>
         ensures { result ≡ first_claim self.now dir name.now }
     {
+        self.keeps();
         let mut first = None;
-        for entry in self.entries.values() {
-            if is_rival(entry, dir, name) {
-                first = Some(lesser(&first, Claim::of(entry)));
-            }
+        for child in self.listed(name) {
+            first = self.earlier(dir, name, first, *child);
         }
         first
     }
 
-    /// The entry of the child that shows this name, where `first` is the first claim on it.
-    fn showing(&self, dir: FileId, shown: &[u8], first: &Option<Claim>) -> Option<&Entry>
-        requires { first.now ≡ first_claim self.now dir shown.now }
-        ensures { option_copied result ≡ find (shows self.now dir shown.now) (values_of self.now) }
+    /// The claim that goes first, of the one so far and the child's, if it has this name there.
+    fn earlier(
+        &self,
+        dir: FileId,
+        name: &[u8],
+        first: Option<Claim>,
+        child: FileId,
+    ) -> Option<Claim>
+        ensures { result ≡ take_listed self.now dir name.now first child }
     {
-        self.entries
-            .values()
-            .find(|entry| self.shows(dir, entry, shown, first))
+        match self.get(child) {
+            Some(entry) => {
+                if is_rival(entry, dir, name) {
+                    Some(lesser(&first, Claim::of(entry)))
+                } else {
+                    first
+                }
+            }
+            None => first,
+        }
+    }
+
+    /// The children at the slot of a name, among which are all that have it.
+    fn listed(&self, name: &[u8]) -> &[FileId]
+        ensures { (child : FileId) (e : Entry) → entry_of self.now child ≡ Some e
+            → e.place.name ≡ name.now → is_one_of child result.now ≡ true }
+    {
+        self.named.get(&slot_of(name)).as_slice()
+    }
+
+    /// What holds of all entries.
+    fn keeps(&self)
+        ensures by_child { IsByChild self.now }
+        ensures fit { AreFit self.now }
+    {
+        let _count = self.entries.len();
+    }
+
+    /// The child, if it shows this name, where `first` is the first claim on it.
+    fn showing(
+        &self,
+        dir: FileId,
+        shown: &[u8],
+        first: &Option<Claim>,
+        child: Option<FileId>,
+    ) -> Option<FileId>
+        requires { first.now ≡ first_claim self.now dir shown.now }
+        ensures { result ≡ shown_by self.now dir shown.now child }
+    {
+        let child = child?;
+        let entry = self.get(child)?;
+        if self.shows(dir, entry, shown, first) {
+            Some(child)
+        } else {
+            None
+        }
     }
 
     /// Whether the entry's child shows this name, where `first` is the first claim on it.
@@ -210,6 +275,29 @@ pub(crate) fn is_rival(entry: &Entry, dir: FileId, name: &[u8]) -> bool
     ensures { result ≡ is_rival dir name.now entry.now }
 {
     entry.is_listed(dir) && entry.place.name.as_slice().cmp(name).is_eq()
+}
+
+/// The child that has the claim.
+fn claimant(first: &Option<Claim>) -> Option<FileId>
+    ensures { result ≡ option_map (λ c. c.child) first.now }
+{
+    match first {
+        Some(claim) => Some(claim.child),
+        None => None,
+    }
+}
+
+/// The lesser of two ids, where there are two.
+fn lesser_id(id: Option<FileId>, other: Option<FileId>) -> Option<FileId>
+    ensures { result ≡ lesser_of id other }
+{
+    let Some(a) = id else {
+        return other;
+    };
+    match other {
+        Some(b) if b.compare(&a).is_lt() => Some(b),
+        _ => Some(a),
+    }
 }
 
 /// The claim that goes first.

@@ -1,6 +1,7 @@
 //! What a directory knows of one child.
 
 ghost use Rattle.std.specs.Prelude.{◌≡◌, ◌≢◌, ◌↔◌, IfOk, OnOk, IsTrue};
+ghost use Rattle.pg_register.specs.Place.{newer_place};
 ghost use Rattle.pg_entries.specs.Entry.{brings_change, covers, is_listed, joined};
 
 use pg_base::FileId;
@@ -38,6 +39,17 @@ impl Entry {
         ensures news { IfOk result (λ changed. changed ≡ brings_change self.old other) }
         ensures changed { IfOk result (λ changed. IsTrue changed ↔ (self.new ≢ self.old)) }
         ensures child { self.new.child ≡ self.old.child }
+    {
+        Ok(self.take(other)?)
+    }
+
+    /// The same, of which the place is known also after want of memory.
+    pub(crate) fn take(&mut self, other: Entry) -> Result<bool, AllocError>
+        ensures joined { OnOk result (self.new ≡ joined self.old other) }
+        ensures news { IfOk result (λ changed. changed ≡ brings_change self.old other) }
+        ensures changed { IfOk result (λ changed. IsTrue changed ↔ (self.new ≢ self.old)) }
+        ensures child { self.new.child ≡ self.old.child }
+        ensures place { self.new.place ≡ newer_place self.old.place other.place }
     {
         let moved = self.place.join(other.place);
         let flagged = self.flags.join_all(&other.flags)?;

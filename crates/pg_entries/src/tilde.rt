@@ -1,10 +1,11 @@
 //! Names with an id behind them.
 
-ghost use Rattle.std.specs.Prelude.{◌≡◌, ◌++◌, ◌↔◌, IsTrue, IfOk};
-ghost use Rattle.pg_base.specs.Id.{spelling};
+ghost use Rattle.std.specs.Prelude.{ℕ, List, All, Some, ◌≡◌, ◌≢◌, ◌∷◌, ◌++◌, ◌↔◌, IsTrue, IfOk};
+ghost use Rattle.pg_base.specs.declared.id.FileId.{FileId};
+ghost use Rattle.pg_base.specs.Id.{Fits, spelling};
 ghost use Rattle.pg_register.specs.Place.{tilde_name};
 
-use pg_base::{Bytes, FileId, SharedBytes};
+use pg_base::{Bytes, FileId, SharedBytes, cut_at};
 use std::alloc::{AllocError, Global};
 
 /// The name, a tilde and the id.
@@ -43,4 +44,27 @@ fn is_spelling(text: &[u8], id: FileId) -> bool
         Ok(read) => read.compare(&id).is_eq(),
         Err(_) => false,
     }
+}
+
+/// The id behind the last tilde of the text.
+pub(crate) fn id_behind(text: &[u8]) -> Option<FileId>
+    ensures { (name : List ℕ) (id : FileId)
+        → Fits id → text.now ≡ name ++ tilde_name id → result ≡ Some id }
+{
+    match FileId::read(behind_tildes(text)) {
+        Ok(id) => Some(id),
+        Err(_) => None,
+    }
+}
+
+/// What stands behind the last tilde of the text.
+fn behind_tildes(text: &[u8]) -> &[u8]
+    ensures { (front tail : List ℕ) → All (λ byte. byte ≢ 126) tail
+        → text.now ≡ front ++ 126 ∷ tail → result.now ≡ tail }
+{
+    let mut rest = text;
+    while let Some((_, behind)) = cut_at(rest, b'~') {
+        rest = behind;
+    }
+    rest
 }

@@ -1,7 +1,9 @@
 //! Walks: they give an edge more to replicas that have few.
 
 ghost use Rattle.std.specs.Prelude.{◌≡◌, ◌<◌, IfOk, OnOk, Some, count_by, filter, length, slice_get};
+ghost use Rattle.std.specs.Map.{keys_of};
 ghost use Rattle.std.specs.Option.{option_copied};
+ghost use Rattle.pg_pieces.specs.pg_replica.Index.{ListsFew};
 ghost use Rattle.pg_graph.specs.Walks.{edges_of, has_few_edges, is_onward, meet_origin, onward, walk, walk_along, walk_from, walk_of, walk_of_tick, walk_on, walked, with_few_edges};
 
 use pg_base::{FileId, Items, NodeId};
@@ -11,6 +13,7 @@ use pg_pieces::msg::{Ends, Message, Work};
 use pg_pieces::store::Store;
 use pg_pieces::{EdgeUse, accept, ends_to, is_accepted, link_peer, post, send};
 use std::alloc::AllocError;
+use std::collections::BTreeMap;
 
 /// A walk has so many steps.
 const MOST_HOPS: u8 = 3;
@@ -59,8 +62,43 @@ fn has_few_edges(store: &Store, file: &FileId) -> bool
     !is_root(file) && store.names.is_full(file) && 0 < count && count < FEW_EDGES
 }
 
-/// All such, by id.
+/// All such, by id. Where the files with few edges are listed only those are looked at.
 fn with_few_edges(store: &Store) -> Result<Items<FileId>, AllocError>
+    ensures { IfOk result (λ files. files ≡ with_few_edges store.now) }
+{
+    match store.replicas.with_few_edges() {
+        Some(files) => few_listed(store, files),
+        None => few_held(store),
+    }
+}
+
+/// All such, where each replica with one edge or two is among these.
+fn few_listed(store: &Store, listed: &BTreeMap<FileId, ()>) -> Result<Items<FileId>, AllocError>
+    requires { ListsFew listed.now.entries store.now.replicas }
+    ensures { IfOk result (λ files. files ≡ with_few_edges store.now) }
+{
+    // They say that both maps are in order.
+    let _held = store.names.as_map();
+    let _listed = listed.keys();
+    few_among(store, listed)
+}
+
+/// Such ones among these.
+fn few_among(store: &Store, listed: &BTreeMap<FileId, ()>) -> Result<Items<FileId>, AllocError>
+    ensures { IfOk result
+        (λ files. files ≡ filter (has_few_edges store.now) (keys_of listed.now.entries)) }
+{
+    Ok(Items::from_vec(
+        listed
+            .keys()
+            .copied()
+            .filter(|file| has_few_edges(store, file))
+            .collect(store.allocator())?,
+    ))
+}
+
+/// All such, of all that is held.
+fn few_held(store: &Store) -> Result<Items<FileId>, AllocError>
     ensures { IfOk result (λ files. files ≡ with_few_edges store.now) }
 {
     Ok(Items::from_vec(

@@ -18,9 +18,10 @@ use Rattle.pg_unacked.specs.declared.due.Due.{Due}
 use Rattle.pg_unacked.specs.Due.{UnackedValue, due_cmp, dues_to, is_due, is_same_due}
 use Rattle.pg_unacked.proofs.Dues.{same_dues}
 use Rattle.pg_replica.specs.declared.replica.Replica.{Replica}
-use Rattle.pg_replica.specs.Owes.{IsInOrder, has_key, owes_on}
+use Rattle.pg_unacked.specs.Owes.{IsInOrder, has_key, owes_on}
 use Rattle.pg_replica.specs.Replicas.{ByFile, replica_in}
-use Rattle.pg_replica.specs.Unacked.{AreDue, due_at, dues_of, edges_of, keys_due, unacked}
+use Rattle.pg_unacked.specs.Changes.{due_at}
+use Rattle.pg_replica.specs.Unacked.{AreDue, dues_of, edges_of, keys_due, unacked}
 use Rattle.pg_replica.proofs.InOrder.{both_eq}
 
 -- ---- which they are

@@ -10,13 +10,11 @@ pub mod Merging
 mod Relisting
 mod Putting
 pub mod Ends
+mod FewEdges
 mod Takings
 mod Refusals
 mod InOrder
-mod EdgeKeys
-mod Dues
 mod Redues
-mod Comings
 mod AllDue
 mod Counting
 pub mod Going

@@ -1,7 +1,7 @@
 -- Lists one behind another: what is sent so far, and the first element.
-use Rattle.std.proofs.Common.{◌≡◌, ℕ, ◌<◌, ◌+◌, length, drop, get_or, None, Some, List, [], ◌∷◌, ◌++◌, refl, sym, ap, ◌∙◌}
+use Rattle.std.proofs.Common.{◌≡◌, ℕ, ◌<◌, ◌+◌, length, drop, get_or, None, Some, List, [], ◌∷◌, ◌++◌, refl, ap, ◌∙◌}
 use Rattle.std.specs.List.{flat_map, slice_get}
-use Rattle.std.proofs.lemmas.List.{drop_more}
+use Rattle.pg_unacked.proofs.DueKeys.{pieces_from}
 
 front : {A : Type 0} (xs ys : List A) (a : A) → slice_get xs 0 ≡ Some a → slice_get (xs ++ ys) 0 ≡ Some a
 front [] ys a h = cc
@@ -20,9 +20,6 @@ pub first_later : {X A : Type 0} (f : X → List A) (xs : List X) (x : X) (rest 
 first_later f xs x rest at none = ap (λ l. slice_get (flat_map f l) 0) at ∙ ap (λ l. slice_get l 0) (none_in_front (f x) (flat_map f rest) none)
 
 -- the same of the pieces from an index on
-pub pieces_from : {X : Type 0} (xs : List X) (i : ℕ) (x : X) → i < length xs → x ≡ get_or xs i x → drop i xs ≡ x ∷ drop (i + 1) xs
-pieces_from xs i x lt is = drop_more xs i x lt ∙ ap (λ y. y ∷ drop (i + 1) xs) (sym is)
-
 pub first_at : {X A : Type 0} (f : X → List A) (xs : List X) (i : ℕ) (x : X) (a : A) → i < length xs → x ≡ get_or xs i x → slice_get (f x) 0 ≡ Some a → slice_get (flat_map f (drop i xs)) 0 ≡ Some a
 first_at f xs i x a lt at is = first_here f (drop i xs) x (drop (i + 1) xs) a (pieces_from xs i x lt at) is
 

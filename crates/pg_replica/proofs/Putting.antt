@@ -17,7 +17,8 @@ use Rattle.pg_replica.specs.Index.{Files, IsIndexBy, KnowsNoEnd, ListsNoFewer, L
 use Rattle.pg_replica.specs.Replica.{has_end}
 use Rattle.pg_replica.specs.Replicas.{ByFile, put_replica, replica_in}
 use Rattle.pg_unacked.specs.Due.{UnackedValue}
-use Rattle.pg_replica.specs.Unacked.{AreDue, Redues, edges_of}
+use Rattle.pg_unacked.specs.Changes.{Redues}
+use Rattle.pg_replica.specs.Unacked.{AreDue, edges_of}
 use Rattle.pg_replica.proofs.Redues.{due_put, due_same}
 use Rattle.pg_replica.proofs.Relisting.{Order, more_by, own_by, same_value}
 

@@ -10,6 +10,7 @@ use Rattle.pg_base.specs.Id.{file_cmp}
 use Rattle.pg_base.proofs.Maps.{lookup-insert_entry}
 use Rattle.pg_base.proofs.Entries.{IsStrictlySortedBy-insert_entry, insert_there}
 use Rattle.pg_base.proofs.Orders.{file_total, is_same_file-refl, is_same_file-true}
+use Rattle.pg_unacked.proofs.DueKeys.{other_way}
 use Rattle.pg_replica.specs.declared.replica.Replica.{Replica}
 use Rattle.pg_replica.specs.Replicas.{ByFile, replica_in}
 use Rattle.pg_replica.specs.Index.{Files, IsAllClean, IsIndexBy, ListsOthers, Relists, with_keys}
@@ -42,15 +43,6 @@ own_by false u h = refl
 less_by : (t : Bool) (u : Option (Unit {0})) → t ≡ false → cond t None u ≡ None → u ≡ None
 less_by true u other h = cc
 less_by false u other h = h
-
-pub other_way : (file q : FileId) → eq_by_cmp file_cmp q file ≡ false → is_at (file_cmp file) q ≡ false
-other_way file q other =
-    elim (is_at (file_cmp file) q) as (λ b. is_at (file_cmp file) q ≡ b → b ≡ false) [
-      | true ↦ λ h. (
-          let same : file ≡ q = is_same_file-true file q h in
-          let k : true ≡ false = sym (is_same_file-refl q) ∙ ap (λ z. eq_by_cmp file_cmp q z) (sym same) ∙ other in cc)
-      | false ↦ λ h. refl
-    ] refl
 
 -- a file more
 pub relists_more : {P : Replica → Type 0} (us vs : Files) (file : FileId) (x y : Replica) → (R : Order) → R ≡ file_cmp

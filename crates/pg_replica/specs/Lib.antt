@@ -4,6 +4,5 @@ pub mod Root
 pub mod Replicas
 pub mod InOrder
 pub mod Index
-pub mod Owes
 pub mod Unacked
 pub mod IndexInside

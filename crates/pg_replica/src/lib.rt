@@ -1,40 +1,43 @@
 //! The replicas of a server, each of a file whose versions may stand side by side, or of a
 //! directory, with the edges along which it floods its cells.
 //!
-//! `replica` has `Replica` (birth, content, kept deltas, edges) and how a version comes, is written
-//! and touches its key; `retiring` takes the keys of replaced heads off the edges; `root` makes the
-//! replica of the root that each server begins with. `replicas` has `Replicas`, by file; `listing`
-//! and `numbers` keep, for each change, two lists beside it: the files with unacknowledged keys,
-//! and those that know a number at its end.
+//! `replica` has `Replica` (birth, content, kept deltas, edges) and what it tells; `retiring` takes
+//! the keys of replaced heads off the edges; `root` makes the replica of the root that each server
+//! begins with. `replicas` has `Replicas`, by file; `listing` and `numbers` keep, for each change,
+//! two lists beside it: the files with unacknowledged keys, and those that know a number at its
+//! end; `few` keeps a third, the files whose replica has one edge or two, wherever their number
+//! changes.
 //!
-//! Beside them stands an exact index of what peers have not acknowledged: the keys that are due to
-//! each peer, by file and then by key. `changes` has each change of a replica with the dues that it
-//! makes and takes, `owing` their pieces, and `replacing` a replica that comes with all its keys.
+//! Beside them stands an exact index of what peers have not acknowledged (`pg_unacked`): the keys
+//! that are due to each peer, by file and then by key. A change of edges alone comes from there
+//! with the dues that it makes and takes; `changes` has those of a whole replica: how a version
+//! comes, is written and touches its key, an answer, a replica in the place of another one.
 //!
 //! It stands on contents, deltas and edges. Places, flags and entries stand beside it (`pg_names`),
 //! and who is told what stands above.
 //!
 //! What holds (the invariant of `Replicas`): every replica with an unacknowledged key, or with a
-//! number at its end, is listed, also after memory ran out; and just the keys on the edges of the
-//! replicas are due, each to the peer of its edge. Where memory runs out in the middle of a change
-//! the replica loses its edges, and so its dues. The laws (`laws`): of versions no key stands on an
-//! edge but a head's.
+//! number at its end, is listed, also after memory ran out; so is every one with few edges, unless
+//! memory ran out for that list when an edge went, which is told from then on; and just the keys on
+//! the edges of the replicas are due, each to the peer of its edge. Where memory runs out in the
+//! middle of a change the replica loses its edges, and so its dues. The laws (`laws`): of versions
+//! no key stands on an edge but a head's.
 //!
-//! The definitions: `specs/Replica`, `Replicas`, `Root`, `Index` (what lists promise), `Owes` and
-//! `Unacked` (what is due to peers), `InOrder` (a hash map seen in order), `Laws`. The rules:
-//! docs/RULES.md, "Replicas, edges, keys and tags".
+//! The definitions: `specs/Replica`, `Replicas`, `Root`, `Index` (what lists promise), `Unacked`
+//! (what is due to peers), `InOrder` (a hash map seen in order), `Laws`. The rules: docs/RULES.md,
+//! "Replicas, edges, keys and tags".
 //!
-//! A change more: on `Replica`, then as a function of `changes` that says which keys are due then,
-//! and of `listing` that says how both lists went, then on `Replicas`.
+//! A change more: of edges in `pg_unacked`, or of more than edges in `changes`, with a clause that
+//! says which keys are due then; then in `listing`, which says how both lists went; then on
+//! `Replicas`, where `few` is told the number of edges before and behind it.
 #![tactic(auto)]
 
 mod changes;
+mod few;
 mod laws;
 mod link;
 mod listing;
 mod numbers;
-mod owing;
-mod replacing;
 mod replica;
 mod replicas;
 mod retiring;

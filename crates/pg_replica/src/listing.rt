@@ -5,11 +5,9 @@ ghost use Rattle.pg_base.specs.Version.{stamp_of};
 ghost use Rattle.pg_edges.specs.Edges.{drawn, makes_edge};
 ghost use Rattle.pg_replica.specs.Replica.{covers, has_room, own_actor, refusal_of, tags_after, with_ack_along, with_link, with_touch, with_unlink, with_version, with_write};
 ghost use Rattle.pg_replica.specs.Index.{IsAllClean, KnowsNoEnd, ListsNoFewer, ListsUnless, Relists, with_end, with_keys};
-ghost use Rattle.pg_replica.specs.Unacked.{Redues};
+ghost use Rattle.pg_unacked.specs.Changes.{Redues};
 
-use crate::changes::{
-    acknowledge_due, link_due, put_alone_due, put_head_due, touch_due, unlink_due,
-};
+use crate::changes::{acknowledge, put_alone, put_head};
 use crate::link::Link;
 use crate::numbers::{has_end, knows_end};
 use crate::replica::Replica;
@@ -18,7 +16,7 @@ use pg_content::WriteError;
 use pg_delta::KeptDelta;
 use pg_edges::Key;
 use pg_patch::Ranges;
-use pg_unacked::Unacked;
+use pg_unacked::{Unacked, link_due, touch_due, unlink_due};
 use std::alloc::{AllocError, Global};
 use std::collections::BTreeMap;
 
@@ -151,7 +149,7 @@ pub(crate) fn take_listed(
     let _count = replica.edges.as_slice().len();
     list_keys(&mut lists.unacknowledged, file, replica)?;
     list_end(&mut lists.ended, file, &version)?;
-    put_head_due(
+    put_head(
         replica,
         &mut lists.unacked,
         lists.alloc,
@@ -199,7 +197,7 @@ pub(crate) fn write_listed(
     let _count = replica.edges.as_slice().len();
     list_keys(&mut lists.unacknowledged, file, replica)?;
     list_end(&mut lists.ended, file, &version)?;
-    put_alone_due(
+    put_alone(
         replica,
         &mut lists.unacked,
         lists.alloc,
@@ -232,7 +230,8 @@ pub(crate) fn touch_listed(
     // These are fewer than 2^63, so the tags stay in range.
     let _count = replica.edges.as_slice().len();
     list_keys(&mut lists.unacknowledged, file, replica)?;
-    touch_due(replica, &mut lists.unacked, lists.alloc, file, key, tags)?;
+    let edges = &mut replica.edges;
+    touch_due(edges, &mut lists.unacked, lists.alloc, file, key, tags)?;
     Ok(())
 }
 
@@ -264,7 +263,7 @@ pub(crate) fn link_listed(
     }
     lists.unacknowledged.insert(file, ())?;
     link_due(
-        replica,
+        &mut replica.edges,
         &mut lists.unacked,
         lists.alloc,
         file,
@@ -290,7 +289,7 @@ pub(crate) fn unlink_listed(
     ensures due { Redues lists.old.unacked lists.new.unacked file replica.old.edges
         replica.new.edges }
 {
-    unlink_due(replica, &mut lists.unacked, file, peer, birth);
+    unlink_due(&mut replica.edges, &mut lists.unacked, file, peer, birth);
     if replica.is_clean() {
         lists.unacknowledged.remove(&file);
     }
@@ -313,7 +312,7 @@ pub(crate) fn acknowledge_listed(
     ensures due { Redues lists.old.unacked lists.new.unacked file replica.old.edges
         replica.new.edges }
 {
-    if !acknowledge_due(replica, &mut lists.unacked, file, link, key, tag) {
+    if !acknowledge(replica, &mut lists.unacked, file, link, key, tag) {
         return;
     }
     if replica.is_clean() {

@@ -106,56 +106,6 @@ impl Replica {
         self.edges.are_clean()
     }
 
-    /// Brings in a version that is not covered, with all that its vector covers, and touches its
-    /// key on every edge. `tags` is the next tag to give. After a refusal the content is as before,
-    /// but edges and tags may be changed in part.
-    pub(crate) fn put_head(&mut self, version: Version, tags: &mut u64) -> Result<(), AllocError>
-        requires tags { tags.old + length self.old.edges < 2 ^ 64 }
-        requires news { covers self.old version ≡ false }
-        ensures replica { OnOk result (self.new ≡ with_head self.old version tags.old) }
-        ensures tags { OnOk result (tags.new ≡ tags.old + length self.old.edges) }
-        ensures err { OnErr result (self.new.content ≡ self.old.content) }
-        ensures no_edge { length self.old.edges ≡ 0 → length self.new.edges ≡ 0 }
-    {
-        retire_replaced(&mut self.edges, &self.content, &version);
-        touch_edges(&mut self.edges, key_of(&version), tags)?;
-        self.content.put_head(version)?;
-        Ok(())
-    }
-
-    /// Touches the key on every edge. `tags` is the next tag to give. After a refusal edges and
-    /// tags may be changed in part.
-    pub(crate) fn touch(&mut self, key: Key, tags: &mut u64) -> Result<(), AllocError>
-        requires { tags.old + length self.old.edges < 2 ^ 64 }
-        ensures replica { OnOk result (self.new ≡ with_touch self.old key tags.old) }
-        ensures tags { OnOk result (tags.new ≡ tags.old + length self.old.edges) }
-        ensures content { self.new.content ≡ self.old.content }
-        ensures no_edge { length self.old.edges ≡ 0 → length self.new.edges ≡ 0 }
-    {
-        touch_edges(&mut self.edges, key, tags)
-    }
-
-    /// Links a birth of a peer that makes an edge, and tells that it did. Each of the keys has a
-    /// fresh tag there. `tags` is the next tag to give. After out of memory nothing has changed.
-    pub(crate) fn link(
-        &mut self,
-        peer: NodeId,
-        birth: u64,
-        keys: &[Key],
-        tags: &mut u64,
-    ) -> Result<bool, AllocError>
-        requires { tags.old ≤ 2 ^ 63 }
-        ensures made { IfOk result (λ made. made ≡ makes_edge self.old.edges peer birth) }
-        ensures replica { OnOk result (self.new ≡ with_link self.old peer birth keys.now tags.old) }
-        ensures tags { OnOk result
-            (tags.new ≡ tags.old + drawn self.old.edges peer birth keys.now) }
-        ensures content { self.new.content ≡ self.old.content }
-    {
-        // These are fewer than 2^63, so the tags stay in range.
-        let _count = keys.len();
-        Ok(self.edges.link(peer, birth, keys, tags)?)
-    }
-
     /// One more delta is kept, unless it has too many bytes. After a refusal all is as before.
     pub(crate) fn keep(&mut self, delta: KeptDelta) -> Result<(), AllocError>
         ensures replica { OnOk result (self.new ≡ with_kept self.old delta) }
@@ -181,28 +131,6 @@ impl Replica {
         self.content.next_version(actor, stamp, ranges)
     }
 
-    /// The version is the only head, the delta that made it is kept, and its key is touched on
-    /// every edge. `tags` is the next tag to give. After a refusal the content is as before, but
-    /// all else may be changed in part.
-    pub(crate) fn put_alone(
-        &mut self,
-        version: Version,
-        delta: KeptDelta,
-        tags: &mut u64,
-    ) -> Result<(), AllocError>
-        requires { tags.old + length self.old.edges < 2 ^ 64 }
-        ensures replica { OnOk result (self.new ≡ with_only self.old version delta tags.old) }
-        ensures tags { OnOk result (tags.new ≡ tags.old + length self.old.edges) }
-        ensures err { OnErr result (self.new.content ≡ self.old.content) }
-        ensures no_edge { length self.old.edges ≡ 0 → length self.new.edges ≡ 0 }
-    {
-        retire_all(&mut self.edges, self.content.heads());
-        touch_edges(&mut self.edges, key_of(&version), tags)?;
-        self.kept.keep(delta)?;
-        self.content.put_alone(version)?;
-        Ok(())
-    }
-
     /// The stamps of the heads, in their order.
     pub(crate) fn bases(&self, alloc: Global) -> Result<Items<Stamp>, AllocError>
         ensures { IfOk result (λ ss. ss ≡ map stamp_of self.now.content.heads) }
@@ -214,17 +142,6 @@ impl Replica {
         Ok(stamps)
     }
 
-    /// An answer that came along an edge takes the key off where the tag is the present one there,
-    /// and says whether it did.
-    pub(crate) fn acknowledge(&mut self, link: &Link, key: Key, tag: u64) -> bool
-        ensures replica { self.new ≡ with_ack_along self.old link.now key tag }
-        ensures same { result ≡ false → self.new ≡ self.old }
-        ensures taken { result ≡ true
-            → self.new.edges ≡ taken_off self.old.edges link.now.peer key }
-    {
-        link.own == self.birth && self.edges.ack(link.peer, link.birth, key, tag)
-    }
-
     fn own_actor(&self, server: NodeId) -> Actor
         ensures { result ≡ own_actor self.now server }
     {
@@ -233,18 +150,4 @@ impl Replica {
             birth: self.birth,
         }
     }
-}
-
-/// Touches the key on every edge. Where there is no edge nothing is done, and so nothing fails.
-fn touch_edges(edges: &mut Edges, key: Key, tags: &mut u64) -> Result<(), AllocError>
-    requires { tags.old + length edges.old < 2 ^ 64 }
-    ensures edges { OnOk result (edges.new ≡ touched edges.old key tags.old) }
-    ensures tags { OnOk result (tags.new ≡ tags.old + length edges.old) }
-    ensures no_edge { length edges.old ≡ 0 → length edges.new ≡ 0 }
-{
-    if edges.len() == 0 {
-        return Ok(());
-    }
-    edges.touch(key, tags)?;
-    Ok(())
 }

@@ -18,7 +18,6 @@ use Rattle.pg_names.specs.declared.attributes.Attributes.{Attributes}
 use Rattle.pg_names.specs.Names.{cell_at, is_dir, own_at}
 use Rattle.pg_register.specs.declared.flag.Flag.{Flag}
 use Rattle.pg_replica.specs.declared.replica.Replica.{Replica}
-use Rattle.pg_server.specs.pg_pieces.Accepting.{is_current}
 use Rattle.pg_server.specs.pg_cells.Cells.{fits}
 use Rattle.pg_server.specs.declared.input.Input.TheVariants as input
 use Rattle.pg_server.specs.declared.input.Input.{Input}
@@ -192,7 +191,15 @@ linking (message.Meet ends) = Some ends
 linking (message.Leave ends stamp) = Some ends
 linking _ = None
 
--- who hears one and accepts it lists the sender from then on, with the birth that the message
+-- the replica with the birth that the message names is here, and its edge to the sender, where it
+-- has one, is to no later birth than the sender's that the message names
+pub record IsMet (store : Store) (from : ℕ) (ends : Ends) : Type 0 where
+  pub replica : Replica
+  pub held : replica_at store ends.file ≡ Some replica
+  pub birth : replica.birth ≡ ends.receiver
+  pub none_later : (e : Edge) → edge_to replica.edges from ≡ Some e → e.birth ≤ ends.sender
+
+-- who hears one that is met so lists the sender from then on, with the birth that the message
 -- names: it takes the place of a lesser one
 abbrev pub LinksNameTheSender : ℕ → Type 0
 LinksNameTheSender servers = (events : List Event) (event : Event) (s : ℕ) (packet : Packet)
@@ -201,7 +208,7 @@ LinksNameTheSender servers = (events : List Event) (event : Event) (s : ℕ) (pa
     ≡ Some (record { server = s; asked = input.Arrival packet })
     → takes_effect ((run servers events).stores s) (input.Arrival packet) ≡ true
     → linking packet.message ≡ Some ends
-    → is_current ((run servers events).stores s) packet.from ends ≡ true
+    → IsMet ((run servers events).stores s) packet.from ends
     → replica_at ((next servers (run servers events) event).stores s) ends.file ≡ Some y
     → is_listed y.edges packet.from ends.sender ≡ true
 

@@ -3,3 +3,7 @@ mod Cuts
 mod Places
 mod Peers
 pub mod Dues
+mod EdgeKeys
+pub mod DueKeys
+pub mod Comings
+pub mod Redues

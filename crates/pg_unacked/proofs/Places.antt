@@ -1,5 +1,5 @@
 -- Dues in order, searched by halves: for one due, and for those of a file.
-use Rattle.std.proofs.Common.{ℕ, ◌≡◌, ◌<◌, ◌≤◌, ◌++◌, Bool, true, false, ◌||◌, not, List, [], length, get_or, take, drop, refl, sym, ap, subst, ◌∙◌, arith, inl, inr, filter, Less, Equal, Greater, Result, Ok, Err, IfOk, IfErr}
+use Rattle.std.proofs.Common.{ℕ, ◌≡◌, ◌<◌, ◌≤◌, ◌+◌, ◌++◌, Bool, true, false, ◌||◌, not, List, [], length, get_or, take, drop, refl, sym, ap, subst, ◌∙◌, arith, inl, inr, filter, Less, Equal, Greater, Result, Ok, Err, IfOk, IfErr}
 use Rattle.std.specs.declared.cmp.Ordering.{Ordering}
 use Rattle.std.specs.Ordering.{is_eq, is_le, is_lt, ordering_reverse, ordering_then}
 use Rattle.std.specs.List.Sorted.{IsStrictlySortedBy, IsBinarySearchResult, IsPartitionPoint, IsPartitionedBy, IsSearchInRange}
@@ -82,6 +82,24 @@ pub searched : (dues : List Due) (due : Due) (r : Result ℕ ℕ) → AreOrdered
 searched dues due r sorted within found =
     searched_here dues due r sorted within (subst (λ (o : Due → Due → Ordering). IsBinarySearchResult (λ d. o d due) dues r) due_order_is found)
 
+pub lt_is_less : (o : Ordering) → is_lt o ≡ true → o ≡ Less
+lt_is_less Less h = refl
+lt_is_less Equal h = cc
+lt_is_less Greater h = cc
+
+-- behind the last
+pub past_last : (dues : List Due) (due : Due) (k : ℕ) → AreOrdered dues → k + 1 ≡ length dues → ((d : Due) → due_cmp (get_or dues k d) due ≡ Less) → IsGap dues due (length dues)
+past_last dues due k sorted last less =
+    let below = λ (j : ℕ) (d : Due) (lt : j < length dues).
+    elim (cases_lt j k) as (λ w. due_cmp (get_or dues j d) due ≡ Less) [
+      | inl before ↦ due_total.trans (get_or dues j d) (get_or dues k d) due (Less-from_sorted due_cmp dues j k d sorted before (omega arith)) (less d)
+      | inr from ↦ subst (λ n. due_cmp (get_or dues n d) due ≡ Less) (let e : k ≡ j = omega arith in e) (less d)
+    ] in
+    gap_at dues due (length dues) sorted (omega arith) ((λ j d from lt. below j d lt), (λ j d from lt. absurd (omega arith)))
+
+pub past_none : (dues : List Due) (due : Due) → AreOrdered dues → length dues ≡ 0 → IsGap dues due (length dues)
+past_none dues due sorted none = gap_at dues due (length dues) sorted (omega arith) ((λ j d from lt. absurd (omega arith)), (λ j d from lt. absurd (omega arith)))
+
 -- ---- the dues of a file
 
 not_above : (o r : Ordering) → ordering_then o r ≡ Less → is_le o ≡ true
@@ -93,13 +111,8 @@ not_above Greater r h = absurd (let z : Greater ≡ Less = h in cc)
 files_rise : (dues : List Due) → AreOrdered dues → (i j : ℕ) (d : Due) → i < j → j < length dues → is_le (file_cmp (get_or dues i d).file (get_or dues j d).file) ≡ true
 files_rise dues sorted i j d up lt = not_above _ (key_cmp (get_or dues i d).key (get_or dues j d).key) (Less-from_sorted due_cmp dues i j d sorted up lt)
 
-is_lt-true : (o : Ordering) → is_lt o ≡ true → o ≡ Less
-is_lt-true Less h = refl
-is_lt-true Equal h = cc
-is_lt-true Greater h = cc
-
 below_by : (a b c : FileId) (r : Ordering) → file_cmp a b ≡ r → is_le r ≡ true → is_lt (file_cmp b c) ≡ true → is_lt (file_cmp a c) ≡ true
-below_by a b c Less e le h = ap is_lt (file_total.trans a b c e (is_lt-true (file_cmp b c) h))
+below_by a b c Less e le h = ap is_lt (file_total.trans a b c e (lt_is_less (file_cmp b c) h))
 below_by a b c Equal e le h = ap is_lt (file_total.congr a b c e) ∙ h
 below_by a b c Greater e le h = absurd (let z : false ≡ true = le in cc)
 

@@ -1,2 +1,4 @@
 pub mod Due
 pub mod Place
+pub mod Owes
+pub mod Changes

@@ -67,7 +67,8 @@ impl DueList {
         }
     }
 
-    /// The due is among them from now on. After a refusal they are as before.
+    /// The due is among them from now on. After a refusal they are as before. One that goes behind
+    /// all others moves none of them.
     pub(crate) fn insert(&mut self, due: Due) -> Result<(), AllocError>
         ensures ok { OnOk result ((d : Due)
             → is_due d self.new ≡ (is_same_due due d || is_due d self.old)) }
@@ -110,7 +111,11 @@ impl DueList {
         ensures found { IfOk result (IsAt self.now due.now) }
         ensures missing { IfErr result (IsGap self.now due.now) }
     {
-        self.dues.binary_search(due)
+        let dues = self.as_slice();
+        if is_past(dues, due) {
+            return Err(dues.len());
+        }
+        dues.binary_search(due)
     }
 
     /// How many dues are of lesser files.
@@ -130,4 +135,22 @@ impl DueList {
     {
         self.dues.partition_point(|d| d.file.compare(file).is_le())
     }
+}
+
+/// Whether the due would go behind all these: so dues are put that come in their order.
+fn is_past(dues: &[Due], due: &Due) -> bool
+    requires { IsStrictlySortedBy due_cmp dues.now }
+    ensures { result ≡ true → IsGap dues.now due.now (length dues.now) }
+{
+    let count = dues.len();
+    if count == 0 {
+        return true;
+    }
+    is_below(&dues[count - 1], due)
+}
+
+fn is_below(a: &Due, b: &Due) -> bool
+    ensures { result ≡ is_lt (due_cmp a.now b.now) }
+{
+    a.cmp(b).is_lt()
 }

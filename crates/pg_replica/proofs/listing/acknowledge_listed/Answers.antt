@@ -13,5 +13,5 @@ returns-then-is_clean-clause-listed c =
 pub returns-else-is_clean-clause-listed : goal.returns-else-is_clean-clause-listed
 returns-else-is_clean-clause-listed c =
     relists_same _ _ c.args.file _ _ refl (λ clean.
-    ap (λ (y : Replica). are_clean y.edges) c.acknowledge_due.ensures.replica
+    ap (λ (y : Replica). are_clean y.edges) c.acknowledge.ensures.replica
     ∙ clean_along c.args.replica.now c.args.link.now c.args.key c.args.tag clean)

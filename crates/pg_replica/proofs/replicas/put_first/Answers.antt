@@ -1,5 +1,5 @@
 use Rattle.std.proofs.Common.{refl}
-use Rattle.pg_replica.proofs.Comings.{not_entered}
+use Rattle.pg_unacked.proofs.Comings.{not_entered}
 use Rattle.pg_replica.proofs.InOrder.{in_order-come}
 use Rattle.pg_replica.proofs.replicas.put_first.Goals as goal
 

@@ -1,7 +1,8 @@
-use Rattle.std.proofs.Common.{◌≡◌, None, map}
+use Rattle.std.proofs.Common.{◌≡◌, None, drop}
 use Rattle.std.specs.List.{fold}
-use Rattle.pg_entries.specs.Shown.{take_claim}
+use Rattle.pg_entries.specs.Slots.{take_listed}
 use Rattle.pg_entries.proofs.entries.Entries.first_claim.Given as goal
 
-abbrev pub invariant-loop-entry : goal.invariant-loop-entry
-invariant-loop-entry l = l.first ≡ fold (take_claim l.dir l.name) None (map (λ r. r.now) l.yielded)
+abbrev pub invariant-loop-child : goal.invariant-loop-child
+invariant-loop-child l =
+    fold (take_listed l.self l.dir l.name) l.first (drop l.child-index l.child-items) ≡ fold (take_listed l.self l.dir l.name) None l.child-items

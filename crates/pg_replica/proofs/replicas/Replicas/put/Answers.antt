@@ -17,6 +17,17 @@ invariant_of-self c =
     record {
       unacknowledged = index_of_more _ _ es c.list_replica.ensures.more c.self.invariant.unacknowledged;
       ended = index_of_more _ _ es c.list_replica.ensures.more_ended c.self.invariant.ended;
+      few = c.self.invariant.few;
+      due = subst (λ (u : UnackedValue). AreDue u es) (sym c.list_replica.ensures.unacked) c.self.invariant.due;
+    }
+
+pub invariant_of-self-in_err-list_few : goal.invariant_of-self-in_err-list_few
+invariant_of-self-in_err-list_few c =
+    let es = in_order c.self.inside.by_file.entries in
+    record {
+      unacknowledged = index_of_more _ _ es c.list_replica.ensures.more c.self.invariant.unacknowledged;
+      ended = index_of_more _ _ es c.list_replica.ensures.more_ended c.self.invariant.ended;
+      few = λ whole. index_of_more _ _ es c.list_few.ensures.more (c.self.invariant.few whole);
       due = subst (λ (u : UnackedValue). AreDue u es) (sym c.list_replica.ensures.unacked) c.self.invariant.due;
     }
 
@@ -32,6 +43,8 @@ invariant_of-self-in_default c =
           c.list_replica.ensures.more c.in_ok-list_replica.ensures.unacknowledged c.self.invariant.unacknowledged;
       ended = come_index _ _ es _ ds c.args.file c.args.replica r same c.put_first.ensures.ok c.put_first.ensures.err
           c.list_replica.ensures.more_ended c.in_ok-list_replica.ensures.ended c.self.invariant.ended;
+      few = λ whole. come_index _ _ es _ ds c.args.file c.args.replica r same c.put_first.ensures.ok c.put_first.ensures.err
+          c.list_few.ensures.more c.in_ok-list_few.ensures.listed (c.self.invariant.few whole);
       due = come_due es _ ds c.args.file c.args.replica r same c.put_first.ensures.ok c.put_first.ensures.err gap c.put_first.ensures.due c.put_first.ensures.none
           (subst (λ (u : UnackedValue). AreDue u es) (sym c.list_replica.ensures.unacked) c.self.invariant.due);
     }
@@ -51,36 +64,39 @@ pub invariant_of-self-2 : goal.invariant_of-self-2
 invariant_of-self-2 c =
     let es = in_order c.self.inside.by_file.entries in
     let x = c.in-Some.held.now in
-    let w = c.replace_due.new.held in
-    let r = c.replace_due.result in
+    let w = c.replace.new.held in
+    let r = c.replace.result in
     let found = lookup-in_order c.args.file c.self.inside.by_file.entries ∙ sym c.in-Some.ensures.value in
     let set = in_order-set c.self.inside.by_file (c.get_mut.follows.lender w) c.args.file _ w (sym c.in-Some.ensures.value) (c.get_mut.follows.holds w).3 in
     record {
       unacknowledged = index_there es c.self.invariant.unacknowledged
-          (relists_replaced _ _ c.args.file x w c.args.replica r c.replace_due.ensures.ok c.replace_due.ensures.err c.list_replica.ensures.more c.in_ok-list_replica.ensures.unacknowledged)
+          (relists_replaced _ _ c.args.file x w c.args.replica r c.replace.ensures.ok c.replace.ensures.err c.list_replica.ensures.more c.in_ok-list_replica.ensures.unacknowledged)
           file_cmp refl _ found set;
       ended = index_there es c.self.invariant.ended
-          (relists_replaced _ _ c.args.file x w c.args.replica r c.replace_due.ensures.ok c.replace_due.ensures.err c.list_replica.ensures.more_ended c.in_ok-list_replica.ensures.ended)
+          (relists_replaced _ _ c.args.file x w c.args.replica r c.replace.ensures.ok c.replace.ensures.err c.list_replica.ensures.more_ended c.in_ok-list_replica.ensures.ended)
+          file_cmp refl _ found set;
+      few = λ whole. index_there es (c.self.invariant.few whole)
+          (relists_replaced _ _ c.args.file x w c.args.replica r c.replace.ensures.ok c.replace.ensures.err c.list_few.ensures.more c.in_ok-list_few.ensures.listed)
           file_cmp refl _ found set;
       due = due_there es (subst (λ (u : UnackedValue). AreDue u es) (sym c.list_replica.ensures.unacked) c.self.invariant.due) x w c.self.invariant.unacknowledged.by_file
-          c.replace_due.ensures.due _ found set;
+          c.replace.ensures.due _ found set;
     }
 
 pub returns-clause-ok : goal.returns-clause-ok
 returns-clause-ok c =
     let es = in_order c.self.inside.by_file.entries in
-    let w = c.replace_due.new.held in
+    let w = c.replace.new.held in
     let found = lookup-in_order c.args.file c.self.inside.by_file.entries ∙ sym c.in-Some.ensures.value in
     let set = in_order-set c.self.inside.by_file (c.get_mut.follows.lender w) c.args.file _ w (sym c.in-Some.ensures.value) (c.get_mut.follows.holds w).3 in
-    ok_more c.replace_due.result _ _ c.replace_due.ensures.ok (λ is.
+    ok_more c.replace.result _ _ c.replace.ensures.ok (λ is.
     put_there es _ c.args.file c.in-Some.held.now w c.self.invariant.unacknowledged.by_file found set ∙ ap (put_replica es c.args.file) is
     ∙ ap (λ (rs : ByFile). put_replica rs c.args.file c.args.replica) c.self.view_is)
 
 pub returns-clause-err : goal.returns-clause-err
 returns-clause-err c =
     let es = in_order c.self.inside.by_file.entries in
-    let w = c.replace_due.new.held in
+    let w = c.replace.new.held in
     let found = lookup-in_order c.args.file c.self.inside.by_file.entries ∙ sym c.in-Some.ensures.value in
     let set = in_order-set c.self.inside.by_file (c.get_mut.follows.lender w) c.args.file _ w (sym c.in-Some.ensures.value) (c.get_mut.follows.holds w).3 in
-    err_then c.replace_due.result _ _ c.replace_due.ensures.err (λ is.
+    err_then c.replace.result _ _ c.replace.ensures.err (λ is.
     same_there es _ c.args.file c.in-Some.held.now w c.self.invariant.unacknowledged.by_file found set is ∙ c.self.view_is)

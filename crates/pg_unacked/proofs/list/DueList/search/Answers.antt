@@ -4,9 +4,9 @@ use Rattle.pg_unacked.proofs.list.DueList.search.Goals as goal
 pub returns-clause-found : goal.returns-clause-found
 returns-clause-found c =
     let facts = c.binary_search.ensures in
-    rw (← c.self.view_is, ← c.deref.ensures.value) (searched _ c.args.due.now _ (rw c.deref.ensures.value c.self.invariant) facts.bound facts.position).0
+    rw (← c.as_slice-dues.ensures.dues) (searched c.as_slice-dues.result.now c.args.due.now _ (rw c.as_slice-dues.ensures.dues c.as_slice-dues.ensures.sorted) facts.bound facts.position).0
 
 pub returns-clause-missing : goal.returns-clause-missing
 returns-clause-missing c =
     let facts = c.binary_search.ensures in
-    rw (← c.self.view_is, ← c.deref.ensures.value) (searched _ c.args.due.now _ (rw c.deref.ensures.value c.self.invariant) facts.bound facts.position).1
+    rw (← c.as_slice-dues.ensures.dues) (searched c.as_slice-dues.result.now c.args.due.now _ (rw c.as_slice-dues.ensures.dues c.as_slice-dues.ensures.sorted) facts.bound facts.position).1

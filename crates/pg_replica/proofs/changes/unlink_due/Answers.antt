@@ -1,6 +1,0 @@
-use Rattle.pg_replica.proofs.Redues.{redues_out}
-use Rattle.pg_replica.proofs.changes.unlink_due.Goals as goal
-
-pub returns-then-is_listed-clause-due : goal.returns-then-is_listed-clause-due
-returns-then-is_listed-clause-due c =
-    redues_out c.args.file c.args.replica.now.edges _ c.args.peer c.remove_file.ensures c.take_out.ensures
