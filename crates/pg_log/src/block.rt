@@ -14,13 +14,17 @@ pub const START: [u8; 16] = *b"pangaea-log-0001";
 /// The most bytes of an entry.
 pub const MOST: u32 = 65_536;
 
+/// So many bytes stand beside an entry's own: its length, and the next gate.
+const BESIDE: usize = 5;
+
 /// The entry as it stands behind a gate: its length, its bytes, and the next gate, which is closed.
 pub fn written_block(alloc: Global, entry: &[u8]) -> Result<Vec<u8>, AllocError>
     requires { length entry.now ≤ 65536 }
     ensures { IfOk result (λ bytes.
         bytes.items ≡ to_be_bytes w32 (length entry.now) ++ entry.now ++ 0 ∷ []) }
 {
-    let mut bytes = (entry.len() as u32).to_be_bytes().to_vec(alloc)?;
+    let mut bytes = Vec::with_capacity(alloc, entry.len() + BESIDE)?;
+    bytes.extend_from_slice(&(entry.len() as u32).to_be_bytes())?;
     bytes.extend_from_slice(entry)?;
     bytes.push(0)?;
     Ok(bytes)

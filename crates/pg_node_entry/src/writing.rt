@@ -4,6 +4,7 @@ ghost use Rattle.std.specs.Prelude.{◌≡◌, ◌≤◌, ◌++◌, IfOk, OnOk, 
 ghost use Rattle.pg_node_entry.specs.Entries.{FitsArrival, FitsEntry, IsWholeArrival, IsWholeEntry, entry_bytes};
 ghost use Rattle.pg_node_entry.specs.declared.entry.NodeEntry.TheVariants as entry;
 ghost use Rattle.pg_packet_write.specs.Calls.{FitsCall};
+ghost use Rattle.pg_packet_write.specs.Datagrams.{packet_bytes};
 
 use crate::entry::NodeEntry;
 use law_written::packets_are_read;
@@ -16,6 +17,9 @@ use std::alloc::{AllocError, Global};
 
 /// How many bytes of a client's packet stand in front of its number.
 const FRONT: usize = 16;
+
+/// Room for so many bytes is taken at once: most calls are spelled in fewer.
+const ROOM: usize = 256;
 
 /// Writes the entry at the end, and gives it back. What was written is read as this entry.
 #[tactic(auto, unfolding(crate::specs::Entries::entry_bytes))]
@@ -59,6 +63,15 @@ fn behind_front(bytes: &[u8]) -> &[u8]
     &bytes[FRONT..]
 }
 
+/// The packet's bytes.
+fn spelled(alloc: Global, packet: &Datagram) -> Result<Bytes, AllocError>
+    ensures { IfOk result (λ bytes. bytes ≡ packet_bytes packet.now) }
+{
+    let mut bytes = Bytes::from_vec(Vec::with_capacity(alloc, ROOM)?);
+    write_packet(packet, &mut bytes)?;
+    Ok(bytes)
+}
+
 /// A call is spelled as in a client's packet that has the moment as its number.
 fn write_noted_call(
     alloc: Global,
@@ -73,8 +86,7 @@ fn write_noted_call(
 {
     let packet = Datagram::call(moment, Request::Call(call));
     packets_are_read(&packet);
-    let mut bytes = Bytes::new(alloc);
-    write_packet(&packet, &mut bytes)?;
+    let bytes = spelled(alloc, &packet)?;
     write_u8(1, out)?;
     out.extend(behind_front(bytes.as_slice()))?;
     let Datagram { content, .. } = packet;
