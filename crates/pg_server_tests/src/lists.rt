@@ -5,7 +5,9 @@ use pg_call::Call;
 use pg_edges::Key;
 use pg_msg::{Ends, Message, Packet};
 use pg_server::{Input, Server};
+use pg_store::Store;
 use std::alloc::{AllocError, Global};
+use std::process::Abort;
 use std::test::Fail;
 
 const OWN: NodeId = 1;
@@ -69,12 +71,10 @@ fn take(server: &mut Server, input: Input) -> Result<(), Fail> {
     Ok(())
 }
 
-/// A server of so many that made the directory, and the file in it.
-fn made(alloc: Global, servers: u32) -> Result<Server, Fail> {
-    let mut server = Server::new(alloc, OWN, servers)?;
-    take(&mut server, mkdir(alloc)?)?;
-    take(&mut server, create(alloc)?)?;
-    Ok(server)
+/// The server makes the directory, and the file in it.
+fn make(alloc: Global, server: &mut Server) -> Result<(), Fail> {
+    take(server, mkdir(alloc)?)?;
+    take(server, create(alloc)?)
 }
 
 fn are(found: &[FileId], wanted: &[FileId]) -> bool {
@@ -94,11 +94,7 @@ fn tag(server: &Server) -> Option<u64> {
     root.edges.tag(OTHER, 1, Key::Entry(DIR))
 }
 
-// What stands in a directory, and what lists a thing.
-#[test]
-fn children_and_holders_are_lent(rt: HostRuntime) -> Result<(), Fail> {
-    let server = made(rt.alloc(), 1)?;
-    let store = server.store();
+fn lends(rt: &impl Abort, store: &Store) -> Result<(), Fail> {
     assert!(rt; are(store.children(ROOT), &[DIR]));
     assert!(rt; are(store.children(DIR), &[FILE]));
     assert!(rt; are(store.children(FILE), &[]));
@@ -109,16 +105,28 @@ fn children_and_holders_are_lent(rt: HostRuntime) -> Result<(), Fail> {
     Ok(())
 }
 
+// What stands in a directory, and what lists a thing.
+#[test]
+fn children_and_holders_are_lent(rt: HostRuntime) -> Result<(), Fail> {
+    let mut server = Server::new(rt.alloc(), OWN, 1)?;
+    make(rt.alloc(), &mut server)?;
+    lends(&rt, server.store())
+}
+
+fn owes(rt: &impl Abort, alloc: Global, server: &mut Server) -> Result<(), Fail> {
+    take(server, mkdir(alloc)?)?;
+    assert!(rt; owes_the_entry(server));
+    take(server, acknowledged(0))?;
+    assert!(rt; owes_the_entry(server));
+    let tag = tag(server).ok_or("tag")?;
+    take(server, acknowledged(tag))?;
+    assert!(rt; server.store().unacked(OTHER).is_empty());
+    Ok(())
+}
+
 // The other server has not heard of the directory until it says so, by the tag of the entry's cell.
 #[test]
 fn what_is_owed_is_lent(rt: HostRuntime) -> Result<(), Fail> {
     let mut server = Server::new(rt.alloc(), OWN, 2)?;
-    take(&mut server, mkdir(rt.alloc())?)?;
-    assert!(rt; owes_the_entry(&server));
-    take(&mut server, acknowledged(0))?;
-    assert!(rt; owes_the_entry(&server));
-    let tag = tag(&server).ok_or("tag")?;
-    take(&mut server, acknowledged(tag))?;
-    assert!(rt; server.store().unacked(OTHER).is_empty());
-    Ok(())
+    owes(&rt, rt.alloc(), &mut server)
 }

@@ -59,13 +59,6 @@ fn take(server: &mut Server, input: Input) -> Result<(), Fail> {
     Ok(())
 }
 
-/// A server that has made the file.
-fn made(alloc: Global) -> Result<Server, Fail> {
-    let mut server = Server::new(alloc, OWN, 2)?;
-    take(&mut server, create(alloc)?)?;
-    Ok(server)
-}
-
 fn birth(server: &Server) -> u64 {
     server.store().birth(&FILE)
 }
@@ -79,11 +72,17 @@ fn raised(server: &Server) -> Option<u64> {
     None
 }
 
-/// What the server's flag is once it was told to be lowered, under this number.
+/// The server makes the file, and is told that its flag is lowered, under this number.
+fn lower(alloc: Global, server: &mut Server, number: u64) -> Result<(), Fail> {
+    take(server, create(alloc)?)?;
+    let lowered = lowers(alloc, birth(server), number)?;
+    take(server, lowered)
+}
+
+/// What the server's flag is then.
 fn raised_behind(alloc: Global, number: u64) -> Result<Option<u64>, Fail> {
-    let mut server = made(alloc)?;
-    let lowered = lowers(alloc, birth(&server), number)?;
-    take(&mut server, lowered)?;
+    let mut server = Server::new(alloc, OWN, 2)?;
+    lower(alloc, &mut server, number)?;
     Ok(raised(&server))
 }
 

@@ -11,6 +11,7 @@ use pg_register::{GoldFlags, Place};
 use pg_store::Store;
 use pg_words::first_words;
 use std::alloc::{AllocError, Global};
+use std::process::Abort;
 use std::test::Fail;
 
 /// The directory with this number of server 2.
@@ -63,23 +64,46 @@ fn reply(store: &mut Store, line: &[u8]) -> Result<String, Fail> {
     Ok(format!(in alloc; "{reply}")?)
 }
 
+/// A directory gets a directory, and as many other children as it takes.
+fn fill(store: &mut Store) -> Result<(), AllocError> {
+    let alloc = store.allocator();
+    hold(store, dir(1), ROOT, b"a")?;
+    hold(store, dir(2), dir(1), b"b")?;
+    for number in 0..4095 {
+        let other = entry(alloc, dir(10 + number), ROOT, b"x")?;
+        store.take_entry(dir(1), other)?;
+    }
+    Ok(())
+}
+
+fn tells(rt: &impl Abort, store: &mut Store, line: &[u8], told: &str) -> Result<(), Fail> {
+    let reply = reply(store, line)?;
+    assert_eq!(rt; reply.as_str(), told);
+    Ok(())
+}
+
+fn takes_no_other(rt: &impl Abort, store: &mut Store) -> Result<(), Fail> {
+    fill(store)?;
+    tells(rt, store, b"mkdir /a/b", "refused 8 Exists d2.2")?;
+    tells(rt, store, b"mkdir /a/c", "refused 9 DirFull")?;
+    tells(rt, store, b"rename /a/b /a/c", "done")
+}
+
 // A child that has an entry there may be renamed in it.
 #[test]
 fn a_full_directory_takes_no_other_child(rt: HostRuntime) -> Result<(), Fail> {
     let mut store = Store::new(rt.alloc(), 1, 1)?;
-    hold(&mut store, dir(1), ROOT, b"a")?;
-    hold(&mut store, dir(2), dir(1), b"b")?;
-    for number in 0..4095 {
-        let other = entry(rt.alloc(), dir(10 + number), ROOT, b"x")?;
-        store.take_entry(dir(1), other)?;
-    }
-    for (line, told) in [
-        (b"mkdir /a/b".as_slice(), "refused 8 Exists d2.2"),
-        (b"mkdir /a/c", "refused 9 DirFull"),
-        (b"rename /a/b /a/c", "done"),
+    takes_no_other(&rt, &mut store)
+}
+
+fn enters_none(rt: &impl Abort, store: &mut Store) -> Result<(), Fail> {
+    for line in [
+        b"giveup 0 3".as_slice(),
+        b"giveup 2 3",
+        b"giveup 1 1",
+        b"giveup 1 4",
     ] {
-        let reply = reply(&mut store, line)?;
-        assert_eq!(rt; reply.as_str(), told);
+        tells(rt, store, line, "refused 19 WrongView 0")?;
     }
     Ok(())
 }
@@ -88,14 +112,5 @@ fn a_full_directory_takes_no_other_child(rt: HostRuntime) -> Result<(), Fail> {
 #[test]
 fn only_the_next_removal_of_another_server_is_entered(rt: HostRuntime) -> Result<(), Fail> {
     let mut store = Store::new(rt.alloc(), 1, 3)?;
-    for line in [
-        b"giveup 0 3".as_slice(),
-        b"giveup 2 3",
-        b"giveup 1 1",
-        b"giveup 1 4",
-    ] {
-        let reply = reply(&mut store, line)?;
-        assert_eq!(rt; reply.as_str(), "refused 19 WrongView 0");
-    }
-    Ok(())
+    enters_none(&rt, &mut store)
 }
