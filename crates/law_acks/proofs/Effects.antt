@@ -186,18 +186,14 @@ module _ (along : Along) (n s : ℕ) (a : Store) (k : IsWhole n s a) (of : AreOf
     received_first (message.Seek file birth) suits counts =
         let m = message.Seek file birth in
         here m (seek a file birth W) (seek_done n s a (Said m) a W (start m) file birth other)
-    received_first (message.Here ends) suits counts =
-        let m = message.Here ends in
+    received_first (message.Greet ends why) suits counts =
+        let m = message.Greet ends why in
         here m (accept a ends manner.Makes W)
         (accept_done n s a (Said m) a W (start m) ends manner.Makes other)
     received_first (message.Walk ends origin birth hops word) suits counts =
         let m = message.Walk ends origin birth hops word in
         here m (walk a ends origin birth hops word W)
         (walk_done n s a (Said m) a W (start m) ends origin birth hops word other suits.0 suits.1)
-    received_first (message.Meet ends) suits counts =
-        let m = message.Meet ends in
-        here m (accept a ends manner.Makes W)
-        (accept_done n s a (Said m) a W (start m) ends manner.Makes other)
     received_first (message.Harbinger ends tag head) suits counts =
         let m = message.Harbinger ends tag head in
         here m (harbinger a ends tag head W) (harbinger_done along n s a ends tag head W other (start m) suits)

@@ -7,6 +7,7 @@ use Rattle.pg_run.specs.pg_edges.declared.edge.Edge.{Edge}
 use Rattle.pg_run.specs.pg_msg.declared.message.Ask.TheVariants as ask
 use Rattle.pg_run.specs.pg_msg.declared.message.Ends.{Ends}
 use Rattle.pg_run.specs.pg_msg.declared.message.Message.TheVariants as message
+use Rattle.pg_run.specs.pg_msg.declared.summary.Greeting.TheVariants as greeting
 use Rattle.pg_run.specs.pg_msg.declared.work.Work.{Work}
 use Rattle.pg_run.specs.pg_store.declared.store.Store.{Store}
 use Rattle.pg_run.specs.pg_store.Births.{birth_of}
@@ -49,7 +50,7 @@ module _ (n s : ℕ) (a : Store) (heard : Hearing) where
       (chosen Is later (idle b work) (answered_seek file birth linked) u
       (posted n s a heard linked.store linked.work
       (link_done n s a heard b work u file work.from birth other) linked.work.from
-      (message.Here (ends_to linked.store file birth)) (λ from. refl) tt))
+      (message.Greet (ends_to linked.store file birth) greeting.Here) (λ from. refl) tt))
       (posted n s a heard b work u work.from none (λ from. refl) tt)
 
   -- ---- walks
@@ -68,7 +69,7 @@ module _ (n s : ℕ) (a : Store) (heard : Hearing) where
       let linked = link_peer b file origin birth work in
       posted n s a heard linked.store linked.work
       (link_done n s a heard b work u file origin birth other) origin
-      (message.Meet (ends_to linked.store file birth)) (λ from. refl) tt
+      (message.Greet (ends_to linked.store file birth) greeting.Meet) (λ from. refl) tt
 
   -- the origin is another server of the run
   origin_other : (b : Store) (work : Work) → At b work → (origin : ℕ) → 1 ≤ origin → origin ≤ n

@@ -236,8 +236,7 @@ module _ (a : Store) (k : IsAlone a) (work : Work) (ends : Ends) (current : is_c
   received_lists (message.Cell x tag c) e = cell_by x tag c (fits x.file c) refl e
   received_lists (message.Harbinger x tag head) e = harbinger_by x tag head (is_dir x.file) refl e
   received_lists (message.Grant x g) e = grant_by x g e
-  received_lists (message.Here x) e = here_by x e
-  received_lists (message.Meet x) e = here_by x e
+  received_lists (message.Greet x why) e = here_by x e
   received_lists (message.Leave x stamp) e = leave_by x stamp e
   received_lists m e = no_ends e (receive a m work).store
 

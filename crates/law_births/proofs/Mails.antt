@@ -50,12 +50,11 @@ module _ (P : FileId → ℕ → ℕ → Type 0) (from to : ℕ) where
   along_named (message.Later x stamp) named ends is = same_ends x ends is named
   along_named (message.Grant x g) named ends is = same_ends x ends is named
   along_named (message.Full x) named ends is = same_ends x ends is named
-  along_named (message.Here x) named ends is = same_ends x ends is named
+  along_named (message.Greet x why) named ends is = same_ends x ends is named
   along_named (message.Bye x) named ends is = same_ends x ends is named
   along_named (message.Leave x stamp) named ends is = same_ends x ends is named
   along_named (message.LeaveOk x stamp) named ends is = same_ends x ends is named
   along_named (message.Invite x) named ends is = same_ends x ends is named
-  along_named (message.Meet x) named ends is = same_ends x ends is named
   along_named (message.Walk x origin birth hops word) named ends is = same_ends x ends is named.0
   along_named m named ends is = absurd (none-some ends is)
 
@@ -67,9 +66,8 @@ module _ (P : FileId → ℕ → ℕ → Type 0) (from to : ℕ) where
   linking_named (message.Cell e tag c) named x is = same_pair (e.file, e.sender) x is named.0
   linking_named (message.Harbinger e tag head) named x is = same_pair (e.file, e.sender) x is named.0
   linking_named (message.Grant e g) named x is = same_pair (e.file, e.sender) x is named.0
-  linking_named (message.Here e) named x is = same_pair (e.file, e.sender) x is named.0
+  linking_named (message.Greet e why) named x is = same_pair (e.file, e.sender) x is named.0
   linking_named (message.Leave e stamp) named x is = same_pair (e.file, e.sender) x is named.0
-  linking_named (message.Meet e) named x is = same_pair (e.file, e.sender) x is named.0
   linking_named (message.Fetch file birth) named x is = same_pair (file, birth) x is named
   linking_named (message.Seek file birth) named x is = same_pair (file, birth) x is named
   linking_named m named x is = absurd (none-some x is)

@@ -12,6 +12,7 @@ use Rattle.law_order.specs.pg_msg.declared.message.Ends.{Ends}
 use Rattle.law_order.specs.pg_msg.declared.message.Granted.{Granted}
 use Rattle.law_order.specs.pg_msg.declared.message.Message.{Message}
 use Rattle.law_order.specs.pg_msg.declared.message.Message.TheVariants as message
+use Rattle.law_order.specs.pg_msg.declared.summary.Greeting.TheVariants as greeting
 use Rattle.law_order.specs.pg_msg.declared.work.Work.{Work}
 use Rattle.law_order.specs.pg_msg.Ends.{back}
 use Rattle.law_order.specs.pg_names.Names.{fill as fill_names}
@@ -135,7 +136,7 @@ module _ (P : FileId → ℕ → ℕ → Type 0) (G : FileId → ℕ → Type 0)
       subst (λ (x : Granted). All (Q ends.file) x.flags) (sym of.what) (own_says Q (Owed P G s) s d.store ends.file k.fine.store),
     )
     answer_named d (message.NoGrant file birth) of k = (subst (AllNamed P from s) of named, tt)
-    answer_named d (message.Here ends) of k =
+    answer_named d (message.Greet ends why) of k =
         (to_named d ends ends (own_held d ends.file k (ap begins_replica of.0) of.2) (subst (AllNamed P from s) of.0 named) of.1, tt)
     answer_named d (message.NoneHere what file child) of k = (tt, tt)
     answer_named d (message.ByeOk file birth) of k =
@@ -222,7 +223,7 @@ module _ (P : FileId → ℕ → ℕ → Type 0) (G : FileId → ℕ → Type 0)
       tells_origin = λ d ends origin birth hops word is accepted k. (
           let both_named : ends_named P from s ends × P ends.file origin birth = subst (AllNamed P from s) is named in
           let own = own_at d ends.file ends.receiver k (ap begins_replica is) (here ends _ accepted) in
-          behind_post P G s from a m d origin (message.Meet (ends_to d.store ends.file birth)) (own, both_named.1) tt k);
+          behind_post P G s from a m d origin (message.Greet (ends_to d.store ends.file birth) greeting.Meet) (own, both_named.1) tt k);
       passes_on = λ ends origin birth hops word left rest i e is accepted at k. (
           let f = ends.file in
           let both_named : ends_named P from s ends × P f origin birth = subst (AllNamed P from s) is named in

@@ -149,7 +149,7 @@ module _ {s : ℕ} {a : Store} {us : List Born} {p : FileId → Policy} {N : Fil
     received_step (message.NoGrant file birth) h = other_received (message.NoGrant file birth) refl
     received_step (message.Full ends) h = other_received (message.Full ends) refl
     received_step (message.Seek file birth) h = other_received (message.Seek file birth) refl
-    received_step (message.Here ends) h = other_received (message.Here ends) refl
+    received_step (message.Greet ends why) h = other_received (message.Greet ends why) refl
     received_step (message.NoneHere ask file child) h =
         other_received (message.NoneHere ask file child) refl
     received_step (message.Gone file birth) h = other_received (message.Gone file birth) refl
@@ -164,7 +164,6 @@ module _ {s : ℕ} {a : Store} {us : List Born} {p : FileId → Policy} {N : Fil
     received_step (message.Invite ends) h = other_received (message.Invite ends) refl
     received_step (message.Walk ends origin birth hops word) h =
         other_received (message.Walk ends origin birth hops word) refl
-    received_step (message.Meet ends) h = other_received (message.Meet ends) refl
 
   -- whether it is heard or not
   module _ (packet : Packet) (h : Carries us p N packet.message) where

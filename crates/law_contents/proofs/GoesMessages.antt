@@ -118,10 +118,9 @@ module _ {s : ℕ} {a : Store} {us : List Born} {p : FileId → Policy} {N : Fil
   received_goes (message.NoGrant file birth) is = go (no_grant_quiet us p N a work file birth).keeps
   received_goes (message.Full ends) is = go (full_quiet us p N a work ends).keeps
   received_goes (message.Seek file birth) is = go (seek_quiet us p N a work file birth).keeps
-  received_goes (message.Here ends) is = go (accept_quiet us p N a work ends manner.Makes).keeps
+  received_goes (message.Greet ends why) is = go (accept_quiet us p N a work ends manner.Makes).keeps
   received_goes (message.Walk ends origin birth hops word) is =
       go (walk_quiet us p N a work ends origin birth hops word).keeps
-  received_goes (message.Meet ends) is = go (accept_quiet us p N a work ends manner.Makes).keeps
   received_goes (message.NoneHere ask file child) is =
       go (none_here_quiet us p N a work ask file child).keeps
   received_goes (message.Gone file birth) is = go (gone_quiet us p N a work file birth).keeps

@@ -14,6 +14,7 @@ use Rattle.law_order.specs.pg_msg.declared.message.Ask.{Ask}
 use Rattle.law_order.specs.pg_msg.declared.message.Ask.TheVariants as ask
 use Rattle.law_order.specs.pg_msg.declared.message.Ends.{Ends}
 use Rattle.law_order.specs.pg_msg.declared.message.Message.TheVariants as message
+use Rattle.law_order.specs.pg_msg.declared.summary.Greeting.TheVariants as greeting
 use Rattle.law_order.specs.pg_msg.declared.work.Work.{Work}
 use Rattle.law_order.specs.pg_names.Names.{fill as fill_names, own_or_blank}
 use Rattle.law_order.specs.pg_replica.declared.replica.Replica.{Replica}
@@ -98,7 +99,7 @@ module _ (us : List Born) (p : FileId → Policy) (N : FileId → Type 0) (a : S
       (chosen IsQuiet (knows_later a file work.from birth) (idle a work)
       (answered_seek file birth d) still
       (quiet_then us p N (link_quiet us p N a file work.from birth work)
-      (quiet_post us p N d.store d.work.from (message.Here (ends_to d.store file birth)) d.work tt)))
+      (quiet_post us p N d.store d.work.from (message.Greet (ends_to d.store file birth) greeting.Here) d.work tt)))
       (quiet_post us p N a work.from no work tt)
 
   -- ---- walks
@@ -115,7 +116,7 @@ module _ (us : List Born) (p : FileId → Policy) (N : FileId → Type 0) (a : S
   met_origin file origin birth =
       let d = link_peer a file origin birth work in
       quiet_then us p N (link_quiet us p N a file origin birth work)
-      (quiet_post us p N d.store origin (message.Meet (ends_to d.store file birth)) d.work tt)
+      (quiet_post us p N d.store origin (message.Greet (ends_to d.store file birth) greeting.Meet) d.work tt)
 
   walked_quiet : (ends : Ends) (origin birth hops word : ℕ) (edges : List Edge)
       → IsQuiet (walked a ends origin birth hops word edges work)

@@ -264,10 +264,9 @@ module _ {s : ℕ} {a : Store} {us : List Born} {p : FileId → Policy} {N : Fil
       received_kept (message.NoGrant file birth) h = quiet _ (no_grant_quiet us p N a work file birth)
       received_kept (message.Full ends) h = quiet _ (full_quiet us p N a work ends)
       received_kept (message.Seek file birth) h = quiet _ (seek_quiet us p N a work file birth)
-      received_kept (message.Here ends) h = quiet _ (accept_quiet us p N a work ends manner.Makes)
+      received_kept (message.Greet ends why) h = quiet _ (accept_quiet us p N a work ends manner.Makes)
       received_kept (message.Walk ends origin birth hops word) h =
           quiet _ (walk_quiet us p N a work ends origin birth hops word)
-      received_kept (message.Meet ends) h = quiet _ (accept_quiet us p N a work ends manner.Makes)
       received_kept (message.NoneHere ask file child) h =
           quiet _ (none_here_quiet us p N a work ask file child)
       received_kept (message.Gone file birth) h = quiet _ (gone_quiet us p N a work file birth)

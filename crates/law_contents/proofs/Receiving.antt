@@ -291,12 +291,10 @@ module _ {s : ℕ} {a : Store} {us : List Born} {p : FileId → Policy} {N : Fil
       quiet _ (full_quiet us p N a work ends) [] (λ f. refl)
   receive_arrives some wants agrees (message.Seek file birth) h =
       quiet _ (seek_quiet us p N a work file birth) [] (λ f. refl)
-  receive_arrives some wants agrees (message.Here ends) h =
+  receive_arrives some wants agrees (message.Greet ends why) h =
       quiet _ (accept_quiet us p N a work ends manner.Makes) [] (λ f. refl)
   receive_arrives some wants agrees (message.Walk ends origin birth hops word) h =
       quiet _ (walk_quiet us p N a work ends origin birth hops word) [] (λ f. refl)
-  receive_arrives some wants agrees (message.Meet ends) h =
-      quiet _ (accept_quiet us p N a work ends manner.Makes) [] (λ f. refl)
   receive_arrives some wants agrees (message.NoneHere ask file child) h =
       quiet _ (none_here_quiet us p N a work ask file child) [] (λ f. refl)
   receive_arrives some wants agrees (message.Gone file birth) h =

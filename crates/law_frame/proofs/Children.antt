@@ -13,6 +13,8 @@ use Rattle.pg_run.specs.pg_msg.declared.message.Ask.{Ask}
 use Rattle.pg_run.specs.pg_msg.declared.message.Ask.TheVariants as ask
 use Rattle.pg_run.specs.pg_msg.declared.message.Ends.{Ends}
 use Rattle.pg_run.specs.pg_msg.declared.message.Message.TheVariants as message
+use Rattle.pg_run.specs.pg_msg.declared.summary.Greeting.{Greeting}
+use Rattle.pg_run.specs.pg_msg.declared.summary.Greeting.TheVariants as greeting
 use Rattle.pg_run.specs.pg_msg.declared.work.Work.{Work}
 use Rattle.pg_run.specs.pg_register.declared.flag.Flag.{Flag}
 use Rattle.pg_run.specs.pg_store.declared.store.Store.{Store}
@@ -132,17 +134,14 @@ module _ (a : Store) (w : Work) (I : Done → Type 0) where
       decided J (is_held a file) (cond late (idle a w) (answered_seek file birth to))
       (idle a (reply a none w))
       (λ here. chosen J late (idle a w) (answered_seek file birth to) h
-      (answered a w I m k to (message.Here (ends_to to.store file birth)) (refl, refl, here)
+      (answered a w I m k to (message.Greet (ends_to to.store file birth) greeting.Here) (refl, refl, here)
       (linked a w I m k (idle a w) file birth refl h)))
       (λ away. answered a w I m k (idle a w) none tt h)
 
-  pub here_keeps : (ends : Ends) → Keeps a w (message.Here ends) I → J (idle a w)
-      → J (here a ends w)
-  here_keeps ends k h = accept_keeps a w I (message.Here ends) k manner.Makes ends refl refl h
-
-  pub meet_keeps : (ends : Ends) → Keeps a w (message.Meet ends) I → J (idle a w)
-      → J (here a ends w)
-  meet_keeps ends k h = accept_keeps a w I (message.Meet ends) k manner.Makes ends refl refl h
+  pub here_keeps : (ends : Ends) (why : Greeting) → Keeps a w (message.Greet ends why) I
+      → J (idle a w) → J (here a ends w)
+  here_keeps ends why k h =
+      accept_keeps a w I (message.Greet ends why) k manner.Makes ends refl refl h
 
   -- ---- walks
 

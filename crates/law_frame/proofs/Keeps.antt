@@ -20,6 +20,7 @@ use Rattle.pg_run.specs.pg_msg.declared.message.Ends.{Ends}
 use Rattle.pg_run.specs.pg_msg.declared.message.Granted.{Granted}
 use Rattle.pg_run.specs.pg_msg.declared.message.Message.{Message}
 use Rattle.pg_run.specs.pg_msg.declared.message.Message.TheVariants as message
+use Rattle.pg_run.specs.pg_msg.declared.summary.Greeting.TheVariants as greeting
 use Rattle.pg_run.specs.pg_msg.declared.work.Work.{Work}
 use Rattle.pg_run.specs.pg_msg.Ends.{back}
 use Rattle.pg_run.specs.pg_msg.Work.{with_tail}
@@ -64,13 +65,12 @@ along (message.Piece ends p) = Some ends
 along (message.Later ends stamp) = Some ends
 along (message.Grant ends granted) = Some ends
 along (message.Full ends) = Some ends
-along (message.Here ends) = Some ends
+along (message.Greet ends why) = Some ends
 along (message.Bye ends) = Some ends
 along (message.Leave ends stamp) = Some ends
 along (message.LeaveOk ends stamp) = Some ends
 along (message.Invite ends) = Some ends
 along (message.Walk ends origin birth hops word) = Some ends
-along (message.Meet ends) = Some ends
 along _ = None
 
 -- the replica of its sender that it may link: the thing, and the birth
@@ -78,9 +78,8 @@ abbrev pub linking : Message → Option (FileId × ℕ)
 linking (message.Cell ends tag c) = Some (ends.file, ends.sender)
 linking (message.Harbinger ends tag head) = Some (ends.file, ends.sender)
 linking (message.Grant ends granted) = Some (ends.file, ends.sender)
-linking (message.Here ends) = Some (ends.file, ends.sender)
+linking (message.Greet ends why) = Some (ends.file, ends.sender)
 linking (message.Leave ends stamp) = Some (ends.file, ends.sender)
-linking (message.Meet ends) = Some (ends.file, ends.sender)
 linking (message.Fetch file birth) = Some (file, birth)
 linking (message.Seek file birth) = Some (file, birth)
 linking _ = None
@@ -151,7 +150,7 @@ module _ (a : Store) (m : Message) (b : Store) where
       × (is_full a ends.file ≡ true)
   Answers (message.Grant ends granted) = IsGranted ends granted
   Answers (message.NoGrant file birth) = m ≡ message.Fetch file birth
-  Answers (message.Here ends) =
+  Answers (message.Greet ends why) =
       (m ≡ message.Seek ends.file ends.receiver) × (ends ≡ ends_to b ends.file ends.receiver)
       × (is_held a ends.file ≡ true)
   Answers (message.NoneHere what file child) = Unit {0}
@@ -249,7 +248,7 @@ pub record Keeps (a : Store) (w : Work) (m : Message) (I : Done → Type 0) : Ty
       → m ≡ message.Walk ends origin birth hops word
       → is_accepted a w.from manner.Needs ends ≡ true → I d
       → I (idle d.store
-      (post d.store origin (message.Meet (ends_to d.store ends.file birth)) d.work))
+      (post d.store origin (message.Greet (ends_to d.store ends.file birth) greeting.Meet) d.work))
   pub passes_on : (ends : Ends) (origin birth hops word left rest i : ℕ) (e : Edge)
       → m ≡ message.Walk ends origin birth hops word
       → is_accepted a w.from manner.Needs ends ≡ true

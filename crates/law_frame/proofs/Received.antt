@@ -7,7 +7,7 @@ use Rattle.pg_run.specs.pg_store.declared.store.Store.{Store}
 use Rattle.pg_run.specs.pg_pieces.Done.{Done, idle}
 use Rattle.pg_run.specs.pg_server.Local.{receive}
 use Rattle.law_frame.proofs.Along.{ack_keeps, cell_keeps, delta_keeps, harbinger_keeps, later_keeps, piece_keeps, want_keeps}
-use Rattle.law_frame.proofs.Children.{confirm_keeps, here_keeps, meet_keeps, none_here_keeps, place_is_keeps, seek_keeps, tell_keeps, tell_ok_keeps, walk_keeps}
+use Rattle.law_frame.proofs.Children.{confirm_keeps, here_keeps, none_here_keeps, place_is_keeps, seek_keeps, tell_keeps, tell_ok_keeps, walk_keeps}
 use Rattle.law_frame.proofs.Keeps.{Keeps, Kept}
 use Rattle.law_frame.proofs.Replicas.{bye_keeps, bye_ok_keeps, fetch_keeps, full_keeps, gone_keeps, grant_keeps, invite_keeps, leave_keeps, leave_ok_keeps, no_grant_keeps}
 
@@ -25,7 +25,7 @@ module _ (a : Store) (w : Work) (I : Done → Type 0) where
   received (message.NoGrant file birth) k h = no_grant_keeps a w I file birth k h
   received (message.Full ends) k h = full_keeps a w I ends k h
   received (message.Seek file birth) k h = seek_keeps a w I file birth k h
-  received (message.Here ends) k h = here_keeps a w I ends k h
+  received (message.Greet ends why) k h = here_keeps a w I ends why k h
   received (message.NoneHere what file child) k h = none_here_keeps a w I what file child k h
   received (message.Gone file birth) k h = gone_keeps a w I file birth k h
   received (message.Bye ends) k h = bye_keeps a w I ends k h
@@ -39,7 +39,6 @@ module _ (a : Store) (w : Work) (I : Done → Type 0) where
   received (message.Invite ends) k h = invite_keeps a w I ends k h
   received (message.Walk ends origin birth hops word) k h =
       walk_keeps a w I ends origin birth hops word k h
-  received (message.Meet ends) k h = meet_keeps a w I ends k h
 
   -- THE WALK
   pub receive_keeps : (m : Message) → Keeps a w m I → I (idle a w) → I (receive a m w)

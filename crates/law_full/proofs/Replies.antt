@@ -8,6 +8,7 @@ use Rattle.pg_run.specs.pg_edges.declared.edge.Edge.{Edge}
 use Rattle.pg_run.specs.pg_msg.declared.message.Ends.{Ends}
 use Rattle.pg_run.specs.pg_msg.declared.message.Message.{Message}
 use Rattle.pg_run.specs.pg_msg.declared.message.Message.TheVariants as message
+use Rattle.pg_run.specs.pg_msg.declared.summary.Greeting.TheVariants as greeting
 use Rattle.pg_run.specs.pg_msg.declared.work.Work.{Work}
 use Rattle.pg_run.specs.pg_msg.Work.{with_sent}
 use Rattle.pg_run.specs.pg_names.declared.attributes.Attributes.{Attributes}
@@ -107,7 +108,7 @@ module _ (Q : Work → Type 0) (k : IsClosed Q) where
     turns_wish = λ d file to is h. h;
     answers = λ d r of same h. plain_sends Q k d.store d.work.from r d.work (plain_answer a d.store m r other of) h;
     tells_origin = λ d ends origin birth hops word is here h.
-        plain_sends Q k d.store origin (message.Meet (ends_to d.store ends.file birth)) d.work refl h;
+        plain_sends Q k d.store origin (message.Greet (ends_to d.store ends.file birth) greeting.Meet) d.work refl h;
     passes_on = λ ends origin birth hops word left rest i e is here at h.
         k.last w (sent_to a e.peer (message.Walk (ends_to a ends.file e.birth) origin birth left rest)) refl h;
     notes = λ d ns h. h;

@@ -18,6 +18,7 @@ use Rattle.law_contents.specs.pg_intent.declared.key.IntentKey.TheVariants as in
 use Rattle.law_contents.specs.pg_msg.declared.message.Granted.{Granted}
 use Rattle.law_contents.specs.pg_msg.declared.message.Message.{Message}
 use Rattle.law_contents.specs.pg_msg.declared.message.Message.TheVariants as message
+use Rattle.law_contents.specs.pg_msg.declared.summary.Greeting.TheVariants as greeting
 use Rattle.law_contents.specs.pg_msg.declared.update.Update.{Update}
 use Rattle.law_contents.specs.pg_msg.declared.work.Work.{Work}
 use Rattle.law_contents.specs.pg_names.Names.{fill as fill_names}
@@ -133,7 +134,7 @@ module _ (Q : FileId → Flag → Type 0) (s : ℕ) (us : List Update) where
       answers = λ d r of same k.
           said_post Q s us d.store d.work.from r d.work (answer_says a d.store m r k.store of) k;
       tells_origin = λ d ends origin birth hops word is here k.
-          said_post Q s us d.store origin (message.Meet (ends_to d.store ends.file birth)) d.work tt k;
+          said_post Q s us d.store origin (message.Greet (ends_to d.store ends.file birth) greeting.Meet) d.work tt k;
       passes_on = λ ends origin birth hops word left rest i e is here at k.
           said_last Q s us a e.peer (message.Walk (ends_to a ends.file e.birth) origin birth left rest) w tt k;
       notes = λ d ns k.

@@ -8,6 +8,7 @@ use Rattle.law_order.specs.pg_entries.declared.cell.Cell.TheVariants as cells
 use Rattle.law_order.specs.pg_intent.declared.key.IntentKey.TheVariants as intent_key
 use Rattle.law_order.specs.pg_msg.declared.message.Message.{Message}
 use Rattle.law_order.specs.pg_msg.declared.message.Message.TheVariants as message
+use Rattle.law_order.specs.pg_msg.declared.summary.Greeting.TheVariants as greeting
 use Rattle.law_order.specs.pg_msg.declared.work.Work.{Work}
 use Rattle.law_order.specs.pg_msg.Work.{with_tail}
 use Rattle.law_order.specs.pg_names.Names.{fill as fill_names, filled}
@@ -112,7 +113,7 @@ module _ (n s : ℕ) (r : List ℕ) where
       asks_granter = λ d ends g is same k. far_aimed n s r d (intent_key.Fill ends.file) d.work.from k.from k;
       turns_wish = λ d file to is k. beside d (with_wishes d.store (aim_wish d.store.wishes file to)) refl refl refl k;
       answers = λ d x of same k. far_sent d d.work.from x k;
-      tells_origin = λ d ends origin birth hops word is here k. far_sent d origin (message.Meet (ends_to d.store ends.file birth)) k;
+      tells_origin = λ d ends origin birth hops word is here k. far_sent d origin (message.Greet (ends_to d.store ends.file birth) greeting.Meet) k;
       passes_on = λ ends origin birth hops word left rest i e is here at k.
           far_work n s r (idle a w) (with_tail w (sent_to a e.peer (message.Walk (ends_to a ends.file e.birth) origin birth left rest))) k
           (record { left = refl; from = refl });

@@ -86,7 +86,7 @@ message_length (message.Grant ends granted) h = le_trans (both 29 1628 _ _ (ends
 message_length (message.NoGrant file birth) h = le_trans (replica_length file birth) (omega arith)
 message_length (message.Full ends) h = le_trans (ends_length ends) (omega arith)
 message_length (message.Seek file birth) h = le_trans (replica_length file birth) (omega arith)
-message_length (message.Here ends) h = le_trans (ends_length ends) (omega arith)
+message_length (message.Greet ends why) h = le_trans (ends_length ends) (omega arith)
 message_length (message.NoneHere ask file child) h =
     le_trans (both 1 26 _ _ (ask_length ask) (both 13 13 _ _ (file_length file) (file_length child))) (omega arith)
 message_length (message.Gone file birth) h = le_trans (replica_length file birth) (omega arith)
@@ -102,7 +102,6 @@ message_length (message.LeaveOk ends stamp) h = le_trans (both 29 12 _ _ (ends_l
 message_length (message.Invite ends) h = le_trans (ends_length ends) (omega arith)
 message_length (message.Walk ends origin birth hops word) h =
     le_trans (both 29 21 _ _ (ends_length ends) (walk_length origin birth hops word)) (omega arith)
-message_length (message.Meet ends) h = le_trans (ends_length ends) (omega arith)
 
 -- ---- packets
 

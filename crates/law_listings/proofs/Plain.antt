@@ -54,12 +54,11 @@ plain_is (message.Fetch file birth) h = λ a from. (refl, tt)
 plain_is (message.Grant ends granted) h = λ a from. (refl, tt)
 plain_is (message.NoGrant file birth) h = λ a from. (refl, tt)
 plain_is (message.Full ends) h = λ a from. (refl, tt)
-plain_is (message.Here ends) h = λ a from. (refl, tt)
+plain_is (message.Greet ends why) h = λ a from. (refl, tt)
 plain_is (message.NoneHere what file child) h = λ a from. (refl, tt)
 plain_is (message.Gone file birth) h = λ a from. (refl, tt)
 plain_is (message.Invite ends) h = λ a from. (refl, tt)
 plain_is (message.Walk ends origin birth hops word) h = λ a from. (refl, tt)
-plain_is (message.Meet ends) h = λ a from. (refl, tt)
 plain_is m h = absurd (false≢true h)
 
 pub other : (m : Sent) → is_plain m.packet.message ≡ true → IsOther m

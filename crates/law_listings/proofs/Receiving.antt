@@ -300,7 +300,7 @@ module _ (a : Store) (behind : IsBehind a) (order : IntendsInOrder a) (heard : L
   receive_first z (message.NoGrant file birth) work said one = no_grant_first file birth work
   receive_first z (message.Full ends) work said one = full_first ends work
   receive_first z (message.Seek file birth) work said one = seek_first file birth work
-  receive_first z (message.Here ends) work said one = here_first ends work
+  receive_first z (message.Greet ends why) work said one = here_first ends work
   receive_first z (message.NoneHere what file child) work said one = none_here_first what file child work
   receive_first z (message.Gone file birth) work said one = alike _ (unlink_alike a file work.from birth)
   receive_first z (message.Bye ends) work said one = alike _ (unlink_alike a ends.file work.from ends.sender)
@@ -313,4 +313,3 @@ module _ (a : Store) (behind : IsBehind a) (order : IntendsInOrder a) (heard : L
   receive_first z (message.LeaveOk ends stamp) work said one = leave_ok_first a behind order heard view ends stamp work (place_of z ends.file) said one
   receive_first z (message.Invite ends) work said one = alike (invite a ends work) (invite_alike a ends work)
   receive_first z (message.Walk ends origin birth hops word) work said one = walk_first ends origin birth hops word work
-  receive_first z (message.Meet ends) work said one = here_first ends work

@@ -307,8 +307,8 @@ module _ (removed : List ℕ) (p : Told) (a : Store) (now : List Take) (k : Goes
     message_goes wants (message.Full ends) good = full_by (is_accepted a from manner.Answers ends && not (is_full a ends.file)) ends refl
     message_goes wants (message.Seek file birth) good =
         let s = seek_still a file birth W in leaves_with wants (message.Seek file birth) (still_leaves (receive a (message.Seek file birth) W) s.0 s.1)
-    message_goes wants (message.Here ends) good =
-        let s = accepted_still a ends manner.Makes W in leaves_with wants (message.Here ends) (still_leaves (receive a (message.Here ends) W) s.0 s.1)
+    message_goes wants (message.Greet ends why) good =
+        let s = accepted_still a ends manner.Makes W in leaves_with wants (message.Greet ends why) (still_leaves (receive a (message.Greet ends why) W) s.0 s.1)
     message_goes wants (message.NoneHere what file child) good =
         leaves_with wants (message.NoneHere what file child) (still_leaves (receive a (message.NoneHere what file child) W) (none_here_names a (asking_key what file child) from) refl)
     message_goes wants (message.Gone file birth) good =
@@ -328,5 +328,3 @@ module _ (removed : List ℕ) (p : Told) (a : Store) (now : List Take) (k : Goes
     message_goes wants (message.Walk ends origin birth hops word) good =
         let m = message.Walk ends origin birth hops word in
         let s = walk_still a ends origin birth hops word W in leaves_with wants m (still_leaves (receive a m W) s.0 s.1)
-    message_goes wants (message.Meet ends) good =
-        let s = accepted_still a ends manner.Makes W in leaves_with wants (message.Meet ends) (still_leaves (receive a (message.Meet ends) W) s.0 s.1)

@@ -163,7 +163,7 @@ module _ (p : Told) where
     carried_told wants from (message.NoGrant file birth) h = none_told
     carried_told wants from (message.Full ends) h = none_told
     carried_told wants from (message.Seek file birth) h = none_told
-    carried_told wants from (message.Here ends) h = none_told
+    carried_told wants from (message.Greet ends why) h = none_told
     carried_told wants from (message.NoneHere ask file child) h = none_told
     carried_told wants from (message.Gone file birth) h = none_told
     carried_told wants from (message.Bye ends) h = none_told
@@ -173,7 +173,6 @@ module _ (p : Told) where
     carried_told wants from (message.LeaveOk ends stamp) h = none_told
     carried_told wants from (message.Invite ends) h = none_told
     carried_told wants from (message.Walk ends origin birth hops word) h = none_told
-    carried_told wants from (message.Meet ends) h = none_told
 
     -- ---- a reply
 

@@ -14,6 +14,7 @@ use Rattle.pg_run.proofs.pg_intent.Kept.{own-aimed}
 use Rattle.pg_run.specs.pg_msg.declared.message.Ends.{Ends}
 use Rattle.pg_run.specs.pg_msg.declared.message.Message.{Message}
 use Rattle.pg_run.specs.pg_msg.declared.message.Message.TheVariants as message
+use Rattle.pg_run.specs.pg_msg.declared.summary.Greeting.TheVariants as greeting
 use Rattle.pg_run.specs.pg_msg.declared.work.Slot.{Slot}
 use Rattle.pg_run.specs.pg_msg.declared.work.Work.{Work}
 use Rattle.pg_run.specs.pg_names.declared.attributes.Attributes.{Attributes}
@@ -176,7 +177,7 @@ module _ (p : Saying) (c : IsClosed p) (n s : ℕ) (mine : IsMember p n s) where
           so_store p c n s d (with_wishes d.store (aim_wish d.store.wishes file to)) k (sound_wish d.store file to k.store);
       answers = λ d r of same k. so_reply p c n s d r k (answer_said a m d r said of k);
       tells_origin = λ d ends origin birth hops word is here k.
-          so_sent p c n s d origin (message.Meet (ends_to d.store ends.file birth)) k tt;
+          so_sent p c n s d origin (message.Greet (ends_to d.store ends.file birth) greeting.Meet) k tt;
       passes_on = λ ends origin birth hops word left rest i e is here at k.
           so_tail p c n s (idle a w) e.peer (message.Walk (ends_to a ends.file e.birth) origin birth left rest) k
           (subst (IsSaidOfMessage p) is said);

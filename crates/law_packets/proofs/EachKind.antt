@@ -55,7 +55,7 @@ message_sure kind.Grant = seen_sure _ (then_sure same (ends_sure same) granted_s
 message_sure kind.NoGrant = seen_sure _ replica_sure
 message_sure kind.Full = seen_sure _ (ends_sure same)
 message_sure kind.Seek = seen_sure _ replica_sure
-message_sure kind.Here = seen_sure _ (ends_sure same)
+message_sure (kind.Greet greeting) = seen_sure _ (ends_sure same)
 message_sure kind.NoneHere = seen_sure _ (then_sure same (ask_sure same) (then_sure same (file_sure same) (file_sure same)))
 message_sure kind.Gone = seen_sure _ replica_sure
 message_sure kind.Bye = seen_sure _ (ends_sure same)
@@ -68,7 +68,6 @@ message_sure kind.Leave = seen_sure _ about_sure
 message_sure kind.LeaveOk = seen_sure _ about_sure
 message_sure kind.Invite = seen_sure _ (ends_sure same)
 message_sure kind.Walk = seen_sure _ (then_sure same (ends_sure same) (then_sure same (server_sure same) (then_sure same (wide_sure same) (then_sure same hops_sure (wide_sure same)))))
-message_sure kind.Meet = seen_sure _ (ends_sure same)
 
 -- ---- kinds by their numbers
 

@@ -12,6 +12,7 @@ use Rattle.pg_run.specs.pg_msg.Work.{with_tail}
 use Rattle.pg_run.specs.pg_msg.declared.message.Granted.{Granted}
 use Rattle.pg_run.specs.pg_msg.declared.message.Message.TheVariants as message
 use Rattle.pg_run.specs.pg_msg.declared.message.Message.{Message}
+use Rattle.pg_run.specs.pg_msg.declared.summary.Greeting.TheVariants as greeting
 use Rattle.pg_run.specs.pg_msg.declared.work.Work.{Work}
 use Rattle.pg_run.specs.pg_names.Names as names
 use Rattle.pg_run.specs.pg_names.Names.{is_dir, own_or_blank}
@@ -114,7 +115,7 @@ module _ (P : FileId → Place → Type 0) (blanks : (f : FileId) → is_same_fi
           as_before P s least d (idle (with_wishes d.store (aim_wish d.store.wishes file to)) d.work) refl refl refl refl k;
       answers = λ d r of same k. posted P s least d d.work.from r (answer_of a m d r of k) k;
       tells_origin = λ d ends origin birth hops word is here k.
-          posted P s least d origin (message.Meet (ends_to d.store ends.file birth)) tt k;
+          posted P s least d origin (message.Greet (ends_to d.store ends.file birth) greeting.Meet) tt k;
       passes_on = λ ends origin birth hops word left rest i e is here at k. (
           let sent = sent_to a e.peer (message.Walk (ends_to a ends.file e.birth) origin birth left rest) in
           as_before P s least (idle a w) (idle a (with_tail w sent)) refl refl refl refl k);

@@ -6,6 +6,7 @@ use Rattle.pg_run.specs.pg_intent.Intents.{ended}
 use Rattle.pg_run.specs.pg_msg.declared.message.Granted.{Granted}
 use Rattle.pg_run.specs.pg_msg.declared.message.Message.{Message}
 use Rattle.pg_run.specs.pg_msg.declared.message.Message.TheVariants as message
+use Rattle.pg_run.specs.pg_msg.declared.summary.Greeting.TheVariants as greeting
 use Rattle.pg_run.specs.pg_msg.declared.work.Work.{Work}
 use Rattle.pg_run.specs.pg_names.Names.{own_or_blank}
 use Rattle.pg_run.specs.pg_store.declared.store.Store.{Store}
@@ -84,7 +85,7 @@ module _ (s : Store) (w : Work) (m : Message) (k : SuitsMessage m) where
     answers = λ d r of same h. replied d.store r d.work (answer_post s d.store m r h.store k of) h;
     tells_origin = λ d ends origin birth hops word is here h. record {
       store = h.store;
-      work = posted d.store origin (message.Meet (ends_to d.store ends.file birth)) d.work
+      work = posted d.store origin (message.Greet (ends_to d.store ends.file birth) greeting.Meet) d.work
           (record { about = λ g. g; told = λ g. g; carried = tt }) h.work;
     };
     passes_on = λ ends origin birth hops word left rest i e is here at h.

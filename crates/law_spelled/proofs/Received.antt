@@ -9,6 +9,7 @@ use Rattle.pg_msg.specs.declared.message.Ask.TheVariants as ask
 use Rattle.pg_msg.specs.declared.message.Ends.{Ends}
 use Rattle.pg_msg.specs.declared.message.Message.{Message}
 use Rattle.pg_msg.specs.declared.message.Message.TheVariants as message
+use Rattle.pg_msg.specs.declared.summary.Greeting.TheVariants as greeting
 use Rattle.pg_msg.specs.declared.work.Work.{Work}
 use Rattle.pg_store.specs.declared.store.Store.{Store}
 use Rattle.pg_store.specs.Links.{knows_later}
@@ -41,7 +42,7 @@ seek_fits : (s : Store) (f : FileId) (birth : ℕ) (work : Work) → Fit s work 
 seek_fits s f birth work h =
     let met = link_peer s f work.from birth work in
     let linked = peer_linked s work h f work.from birth h.work.from in
-    let here = message.Here (ends_to met.store f birth) in
+    let here = message.Greet (ends_to met.store f birth) greeting.Here in
     let none = message.NoneHere ask.Seek f f in
     chosen FitsDone (is_held s f) (cond (knows_later s f work.from birth) (idle s work) (idle met.store (reply met.store here met.work)))
     (idle s (reply s none work))
@@ -81,7 +82,7 @@ walked_fits s ends origin birth hops word on work k all h =
     let met = link_peer s ends.file origin birth work in
     let may : MayBeServer origin = k.origin.most in
     let linked = peer_linked s work h ends.file origin birth may in
-    let meet = message.Meet (ends_to met.store ends.file birth) in
+    let meet = message.Greet (ends_to met.store ends.file birth) greeting.Meet in
     decided FitsDone (goes_on hops on) (idle s (walk_on s ends.file origin birth hops word on work)) (meet_origin s ends.file origin birth work)
     (λ is. record {
       store = h.store;
@@ -121,7 +122,7 @@ received_fits s (message.Grant ends granted) work k h =
 received_fits s (message.NoGrant file birth) work k h = no_grant_fits s file birth work h
 received_fits s (message.Full ends) work k h = full_fits s ends work h
 received_fits s (message.Seek file birth) work k h = seek_fits s file birth work h
-received_fits s (message.Here ends) work k h = accept_fits s ends manner.Makes work h
+received_fits s (message.Greet ends why) work k h = accept_fits s ends manner.Makes work h
 received_fits s (message.NoneHere what file child) work k h = none_here_fits s what file child work h
 received_fits s (message.Gone file birth) work k h =
     record { store = unlink_fits s h.store file work.from birth; work = h.work }
@@ -135,4 +136,3 @@ received_fits s (message.Leave ends stamp) work k h = leave_fits s ends stamp wo
 received_fits s (message.LeaveOk ends stamp) work k h = leave_ok_fits s ends stamp work h
 received_fits s (message.Invite ends) work k h = invite_fits s ends work h
 received_fits s (message.Walk ends origin birth hops word) work k h = walk_fits s ends origin birth hops word work k.spelled h
-received_fits s (message.Meet ends) work k h = accept_fits s ends manner.Makes work h

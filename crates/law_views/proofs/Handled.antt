@@ -7,6 +7,7 @@ use Rattle.pg_run.specs.pg_intent.declared.key.IntentKey.TheVariants as intent_k
 use Rattle.pg_run.specs.pg_intent.Intents.{aimed, ended}
 use Rattle.pg_run.specs.pg_msg.declared.message.Message.{Message}
 use Rattle.pg_run.specs.pg_msg.declared.message.Message.TheVariants as message
+use Rattle.pg_run.specs.pg_msg.declared.summary.Greeting.TheVariants as greeting
 use Rattle.pg_run.specs.pg_msg.declared.work.Work.{Work}
 use Rattle.pg_run.specs.pg_names.Names as names
 use Rattle.pg_run.proofs.pg_names.Lookups.{update_frame}
@@ -89,7 +90,7 @@ module _ (n s : ℕ) (R : List ℕ) where
           (seen_aim n s R d.store file to (next_asked to is) k.seen) k;
       answers = λ d r of same k. posted n s R d d.work.from r (answer_live a m d.store r of) k;
       tells_origin = λ d ends origin birth hops word is here k.
-          posted n s R d origin (message.Meet (ends_to d.store ends.file birth)) tt k;
+          posted n s R d origin (message.Greet (ends_to d.store ends.file birth) greeting.Meet) tt k;
       passes_on = λ ends origin birth hops word left rest i e is here at k. record { seen = k.seen; sent = k.sent };
       notes = λ d ns k. stored n s R d (with_notes d.store ns) (seen_noted n s R d.store ns k.seen) k;
       keeps = λ d file x k. stored n s R d (keep_delta d.store file x) (seen_kept n s R d.store file x k.seen) k;

@@ -114,7 +114,7 @@ pub fn message_is_whole(message: &Message)
         Message::NoGrant { file, birth } => replica_is_whole(*file, *birth),
         Message::Full { ends } => ends_are_whole(ends),
         Message::Seek { file, birth } => replica_is_whole(*file, *birth),
-        Message::Here { ends } => ends_are_whole(ends),
+        Message::Greet { ends, .. } => ends_are_whole(ends),
         Message::NoneHere { file, child, .. } => {
             file_is(*file);
             file_is(*child)
@@ -142,6 +142,5 @@ pub fn message_is_whole(message: &Message)
             ends_are_whole(ends);
             walk_is_whole(*origin, *birth, *hops, *word)
         }
-        Message::Meet { ends } => ends_are_whole(ends),
     }
 }

@@ -72,7 +72,7 @@ module _ (n : ℕ) (w : World) where
   message_joined (message.NoGrant file birth) places said flags = tt
   message_joined (message.Full ends) places said flags = tt
   message_joined (message.Seek file birth) places said flags = tt
-  message_joined (message.Here ends) places said flags = tt
+  message_joined (message.Greet ends why) places said flags = tt
   message_joined (message.NoneHere ask file child) places said flags = tt
   message_joined (message.Gone file birth) places said flags = tt
   message_joined (message.Bye ends) places said flags = tt
@@ -82,7 +82,6 @@ module _ (n : ℕ) (w : World) where
   message_joined (message.LeaveOk ends stamp) places said flags = tt
   message_joined (message.Invite ends) places said flags = tt
   message_joined (message.Walk ends origin birth hops word) places said flags = tt
-  message_joined (message.Meet ends) places said flags = tt
 
   -- ---- a server
 

@@ -162,12 +162,11 @@ module _ (es : Entries) (dir : FileId) (name : List ℕ) where
   found_beats c q None there h = no (sym h)
   found_beats c q (Some e) there h = passes (Beats dir name c) es q e there h
 
-  module _ (sorted : IsStrictlySortedBy file_cmp (keys_of es)) (ids : List FileId) (listed : (q : FileId) (e : Entry) → entry_of es q ≡ Some e → e.place.name ≡ name → is_one_of q ids ≡ true) where
+  module _ (sorted : IsStrictlySortedBy file_cmp (keys_of es)) (ids : List FileId) (listed : (q : FileId) (e : Entry) → entry_of es q ≡ Some e → is_rival dir name e ≡ true → is_one_of q ids ≡ true) where
     at_slot : (c : Claim) → Passing (Beats dir name c) es → list_any (λ q. beats_found dir name c (entry_of es q)) ids ≡ true
     at_slot c r =
         let rival = and_parts (is_rival dir name r.1) (is_lt (claim_cmp (claim_of r.1) c)) r.3 in
-        let same = same_name-true r.1.place.name name (and_parts (is_listed dir r.1) (same_name r.1.place.name name) rival.0).1 in
-        let one = Any-from_list_any (is_same_file r.0) ids (listed r.0 r.1 r.2 same) in
+        let one = Any-from_list_any (is_same_file r.0) ids (listed r.0 r.1 r.2 rival.0) in
         let is : r.0 ≡ one.1 = is_same_file-true r.0 one.1 one.4 in
         list_any-from_Any (λ q. beats_found dir name c (entry_of es q)) ids (one.0, one.1, one.2, one.3, ap (λ q. beats_found dir name c (entry_of es q)) (sym is) ∙ ap (beats_found dir name c) r.2 ∙ r.3)
 

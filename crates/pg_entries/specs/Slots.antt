@@ -1,11 +1,11 @@
--- The slots of names, and the index that lists at each slot who has a name of it.
+-- The slots of names, and the index that lists at each slot the live children with a name of it.
 use Rattle.std.specs.Prelude.{ℕ, Bool, ◌≡◌, ◌+◌, ◌*◌, ◌%◌, ◌^◌, ◌&&◌, true, false, not, if◌then◌else◌, List, Option, None, Some}
 use Rattle.std.specs.List.{fold}
 use Rattle.pg_base.specs.declared.id.FileId.{FileId}
-use Rattle.pg_base.specs.declared.id.Kind.TheVariants.{File}
 use Rattle.std.specs.Ordering.{is_lt}
 use Rattle.pg_base.specs.Id.{Fits, file_cmp, is_same_file}
 use Rattle.pg_index.specs.Ids.{ListsValue, has}
+use Rattle.pg_register.specs.declared.place.Place.{Place}
 use Rattle.pg_entries.specs.declared.entry.Entry.{Entry}
 use Rattle.pg_entries.specs.declared.claim.Claim.{Claim}
 use Rattle.pg_entries.specs.Entry.{entry_of}
@@ -15,31 +15,45 @@ use Rattle.pg_entries.specs.Shown.{shows, take_claim}
 abbrev pub digest_on : ℕ → ℕ → ℕ
 digest_on digest byte = ((digest * 31) % 2 ^ 32 + byte) % 2 ^ 32
 
--- a number below 2 ^ 32 that is made of all bytes of a name
-abbrev pub digest_of : List ℕ → ℕ
-digest_of name = fold digest_on 0 name
+-- a number below 2 ^ 32 that is made of a first one and all bytes of a name
+abbrev pub digest_of : ℕ → List ℕ → ℕ
+digest_of first name = fold digest_on first name
 
--- the slot of a name: an id that is made of the name's bytes
-abbrev pub slot_of : List ℕ → FileId
-slot_of name = record { kind = File; server = digest_of name; number = 0 }
+-- the slot of a name in a directory: the directory's id, with the name's bytes put into it
+abbrev pub slot_of : FileId → List ℕ → FileId
+slot_of dir name = record {
+  kind = dir.kind;
+  server = digest_of dir.server name;
+  number = dir.number;
+}
+
+-- the slot of a child that has this place: a dead child has none
+abbrev pub slot_in : Place → Option FileId
+slot_in place = if place.live then Some (slot_of place.parent place.name) else None
 
 abbrev pub slot_at : Option Entry → Option FileId
 slot_at None = None
-slot_at (Some e) = Some (slot_of e.place.name)
+slot_at (Some e) = slot_in e.place
 
--- each child is listed at the slot of its name
+-- each child whose place is live is listed at the slot of its name where it stands
 abbrev pub AreNamed : List (FileId × Entry) → ListsValue → Type 0
 AreNamed entries named = (child : FileId) (e : Entry) →
-    entry_of entries child ≡ Some e → has named (slot_of e.place.name) child ≡ true
+    entry_of entries child ≡ Some e → e.place.live ≡ true
+    → has named (slot_of e.place.parent e.place.name) child ≡ true
 
 -- each child's id has numbers that an id can have
 abbrev pub AreFit : List (FileId × Entry) → Type 0
 AreFit entries = (child : FileId) (e : Entry) → entry_of entries child ≡ Some e → Fits child
 
+-- there is a slot, and it is this one
+abbrev pub is_slot : Option FileId → FileId → Bool
+is_slot None k = false
+is_slot (Some slot) k = is_same_file slot k
+
 -- a slot that a child had and that is not its next one
-abbrev pub is_left : Option FileId → FileId → FileId → Bool
+abbrev pub is_left : Option FileId → Option FileId → FileId → Bool
 is_left None next k = false
-is_left (Some held) next k = is_same_file held k && not (is_same_file held next)
+is_left (Some held) next k = is_same_file held k && not (is_slot next held)
 
 -- ---- how a name is looked up
 

@@ -12,7 +12,7 @@ ghost use Rattle.pg_entries.specs.Slots.{AreFit, lesser_of, shown_by, take_liste
 
 use crate::claim::Claim;
 use crate::entry::Entry;
-use crate::named::{index_of, leave, slots_of_join, slots_of_put};
+use crate::named::{enter, index_of, leave, slots_of_join, slots_of_put};
 use crate::slot::slot_of;
 use crate::tilde::{id_behind, is_with_id};
 use pg_base::FileId;
@@ -134,7 +134,7 @@ impl Entries {
     {
         let child = entry.child;
         let slots = slots_of_join(&self.entries, &entry);
-        self.named.insert(slots.next, child)?;
+        enter(&mut self.named, slots.next, child)?;
         match self.entries.get_mut(&child) {
             Some(held) => {
                 let changed = held.take(entry)?;
@@ -155,7 +155,7 @@ impl Entries {
     {
         let child = entry.child;
         let slots = slots_of_put(&self.entries, &entry);
-        self.named.insert(slots.next, child)?;
+        enter(&mut self.named, slots.next, child)?;
         self.entries.insert(child, entry)?;
         leave(&mut self.named, &slots, &child);
         Ok(())
@@ -189,7 +189,7 @@ impl Entries {
     {
         self.keeps();
         let mut first = None;
-        for child in self.listed(name) {
+        for child in self.listed(dir, name) {
             first = self.earlier(dir, name, first, *child);
         }
         first
@@ -217,12 +217,12 @@ impl Entries {
         }
     }
 
-    /// The children at the slot of a name, among which are all that have it.
-    fn listed(&self, name: &[u8]) -> &[FileId]
+    /// The children at the slot of a name, among which are all in the directory that have it.
+    fn listed(&self, dir: FileId, name: &[u8]) -> &[FileId]
         ensures { (child : FileId) (e : Entry) → entry_of self.now child ≡ Some e
-            → e.place.name ≡ name.now → is_one_of child result.now ≡ true }
+            → is_rival dir name.now e ≡ true → is_one_of child result.now ≡ true }
     {
-        self.named.get(&slot_of(name)).as_slice()
+        self.named.get(&slot_of(dir, name)).as_slice()
     }
 
     /// What holds of all entries.

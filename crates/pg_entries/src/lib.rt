@@ -8,16 +8,19 @@
 //!
 //! It touches no replica and no message: which entries there are is for the house rules.
 //!
-//! Kept by the type: entries stand at their own child, by id, and the index lists each child at
-//! the slot of its name, an id that is made of the name's bytes. It may list more: a child is put
-//! at its new slot first and taken off the old one last, so that running out of memory leaves
-//! nothing to undo. Of two listed children of one name the one with the earlier stamp shows it
-//! plain, and of equal stamps the one of lesser id. A look-up tries the two that can show a name,
-//! the one with the first claim on it and the one whose id stands behind its last tilde: so it
-//! costs as much as names are equal, or share a slot, and takes no memory. Where names outside the
-//! rule make two children show one name, it gives the one of lesser id, and a listing has both
-//! rows. A listing looks at all entries, keeps the first claim on each name in a map, and sorts
-//! once; a page is cut from the whole listing, whose rows share the bytes of names.
+//! Kept by the type: entries stand at their own child, by id, and the index lists each live child
+//! at the slot of its name where it stands, an id that is made of its parent's and the name's
+//! bytes. A dead child shows no name and has no slot, and one that was moved away has another: each
+//! is taken off the slot that it had, so to look up a name costs no more where many had it before.
+//! The index may list more: a child is put at its new slot first and taken off the old one last, so
+//! that running out of memory leaves nothing to undo. Of two listed children of one name the one
+//! with the earlier stamp shows it plain, and of equal stamps the one of lesser id. A look-up tries
+//! the two that can show a name, the one with the first claim on it and the one whose id stands
+//! behind its last tilde: so it costs as much as names of listed children are equal, or share a
+//! slot, and takes no memory. Where names outside the rule make two children show one name, it
+//! gives the one of lesser id, and a listing has both rows. A listing looks at all entries, keeps
+//! the first claim on each name in a map, and sorts once; a page is cut from the whole listing,
+//! whose rows share the bytes of names.
 //!
 //! Definitions: `specs/Entry`, `Names`, `Shown`, `Firsts`, `Slots` for the index, and
 //! `EntriesInside` for what the type keeps. The laws: shown names differ, and each row is found by

@@ -4,6 +4,7 @@ use Rattle.pg_base.specs.declared.id.FileId.{FileId}
 use Rattle.pg_pieces.specs.pg_msg.declared.message.Ask.TheVariants as ask
 use Rattle.pg_pieces.specs.pg_msg.declared.message.Ends.{Ends}
 use Rattle.pg_pieces.specs.pg_msg.declared.message.Message.TheVariants as message
+use Rattle.pg_pieces.specs.pg_msg.declared.summary.Greeting.TheVariants as greeting
 use Rattle.pg_pieces.specs.pg_msg.declared.work.Work.{Work}
 use Rattle.pg_pieces.specs.pg_store.declared.store.Store.{Store}
 use Rattle.pg_pieces.specs.pg_store.Links.{knows_later}
@@ -15,7 +16,8 @@ use Rattle.pg_pieces.specs.Posting.{reply}
 
 abbrev pub answered_seek : FileId → ℕ → Done → Done
 answered_seek file birth done =
-    idle done.store (reply done.store (message.Here (ends_to done.store file birth)) done.work)
+    idle done.store
+    (reply done.store (message.Greet (ends_to done.store file birth) greeting.Here) done.work)
 
 -- a replica, gold or not, full or filling, links who seeks, and answers; but for a birth that is
 -- not the sender's latest. Who has none says so

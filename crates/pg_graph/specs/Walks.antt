@@ -7,6 +7,7 @@ use Rattle.pg_edges.specs.declared.edge.Edge.{Edge}
 use Rattle.pg_pieces.specs.pg_house.Work.{is_root}
 use Rattle.pg_pieces.specs.pg_msg.declared.message.Ends.{Ends}
 use Rattle.pg_pieces.specs.pg_msg.declared.message.Message.TheVariants as message
+use Rattle.pg_pieces.specs.pg_msg.declared.summary.Greeting.TheVariants as greeting
 use Rattle.pg_pieces.specs.pg_msg.declared.work.Work.{Work}
 use Rattle.pg_pieces.specs.pg_msg.Work.{with_tail}
 use Rattle.pg_pieces.specs.pg_store.declared.store.Store.{Store}
@@ -71,7 +72,7 @@ onward store file from origin = filter (is_onward from origin) (edges_of store f
 
 abbrev pub met_at_end : FileId → ℕ → ℕ → Done → Done
 met_at_end file origin birth done = idle done.store
-    (post done.store origin (message.Meet (ends_to done.store file birth)) done.work)
+    (post done.store origin (message.Greet (ends_to done.store file birth) greeting.Meet) done.work)
 
 -- it ends here: the origin is linked, and told
 abbrev pub meet_origin : Store → FileId → ℕ → ℕ → Work → Done

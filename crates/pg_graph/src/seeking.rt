@@ -4,7 +4,7 @@ ghost use Rattle.std.specs.Prelude.{◌≡◌, OnOk};
 ghost use Rattle.pg_graph.specs.Seeking.{here, seek};
 
 use pg_base::FileId;
-use pg_pieces::msg::{Ask, Ends, Message, Work};
+use pg_pieces::msg::{Ask, Ends, Greeting, Message, Work};
 use pg_pieces::store::Store;
 use pg_pieces::{EdgeUse, accept, ends_to, link_peer, post};
 use std::alloc::AllocError;
@@ -29,7 +29,8 @@ pub fn seek(store: &mut Store, file: FileId, birth: u64, work: &mut Work) -> Res
     }
     link_peer(store, file, work.from, birth, work)?;
     let ends = ends_to(store, file, birth);
-    post(store, work.from, Message::Here { ends }, work)?;
+    let greeting = Greeting::Here;
+    post(store, work.from, Message::Greet { ends, greeting }, work)?;
     Ok(())
 }
 

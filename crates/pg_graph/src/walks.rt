@@ -1,19 +1,16 @@
 //! Walks: they give an edge more to replicas that have few.
 
 ghost use Rattle.std.specs.Prelude.{◌≡◌, ◌<◌, IfOk, OnOk, Some, count_by, filter, length, slice_get};
-ghost use Rattle.std.specs.Map.{keys_of};
 ghost use Rattle.std.specs.Option.{option_copied};
-ghost use Rattle.pg_pieces.specs.pg_replica.Index.{ListsFew};
 ghost use Rattle.pg_graph.specs.Walks.{edges_of, has_few_edges, is_onward, meet_origin, onward, walk, walk_along, walk_from, walk_of, walk_of_tick, walk_on, walked, with_few_edges};
 
 use pg_base::{FileId, Items, NodeId};
 use pg_edges::Edge;
 use pg_pieces::house::is_root;
-use pg_pieces::msg::{Ends, Message, Work};
+use pg_pieces::msg::{Ends, Greeting, Message, Work};
 use pg_pieces::store::Store;
 use pg_pieces::{EdgeUse, accept, ends_to, is_accepted, link_peer, post, send};
 use std::alloc::AllocError;
-use std::collections::BTreeMap;
 
 /// A walk has so many steps.
 const MOST_HOPS: u8 = 3;
@@ -62,43 +59,8 @@ fn has_few_edges(store: &Store, file: &FileId) -> bool
     !is_root(file) && store.names.is_full(file) && 0 < count && count < FEW_EDGES
 }
 
-/// All such, by id. Where the files with few edges are listed only those are looked at.
+/// All such, by id. It goes over all that is held.
 fn with_few_edges(store: &Store) -> Result<Items<FileId>, AllocError>
-    ensures { IfOk result (λ files. files ≡ with_few_edges store.now) }
-{
-    match store.replicas.with_few_edges() {
-        Some(files) => few_listed(store, files),
-        None => few_held(store),
-    }
-}
-
-/// All such, where each replica with one edge or two is among these.
-fn few_listed(store: &Store, listed: &BTreeMap<FileId, ()>) -> Result<Items<FileId>, AllocError>
-    requires { ListsFew listed.now.entries store.now.replicas }
-    ensures { IfOk result (λ files. files ≡ with_few_edges store.now) }
-{
-    // They say that both maps are in order.
-    let _held = store.names.as_map();
-    let _listed = listed.keys();
-    few_among(store, listed)
-}
-
-/// Such ones among these.
-fn few_among(store: &Store, listed: &BTreeMap<FileId, ()>) -> Result<Items<FileId>, AllocError>
-    ensures { IfOk result
-        (λ files. files ≡ filter (has_few_edges store.now) (keys_of listed.now.entries)) }
-{
-    Ok(Items::from_vec(
-        listed
-            .keys()
-            .copied()
-            .filter(|file| has_few_edges(store, file))
-            .collect(store.allocator())?,
-    ))
-}
-
-/// All such, of all that is held.
-fn few_held(store: &Store) -> Result<Items<FileId>, AllocError>
     ensures { IfOk result (λ files. files ≡ with_few_edges store.now) }
 {
     Ok(Items::from_vec(
@@ -151,16 +113,21 @@ fn walk_of(store: &Store, word: u64, files: &[FileId], work: &mut Work) -> Resul
 }
 
 /// The walk that a tick sends by its random word, where that is not 0: from one of the full
-/// replicas other than the root's that have one edge or two, to one of its peers.
+/// replicas other than the root's that have one edge or two, to one of its peers. Where the store
+/// has a list of them nothing is gone over.
 pub fn walk_of_tick(store: &Store, word: u64, work: &mut Work) -> Result<(), AllocError>
     ensures { OnOk result (work.new ≡ walk_of_tick store.now word work.old) }
 {
     if word == 0 {
         return Ok(());
     }
-    let files = with_few_edges(store)?;
-    walk_of(store, word, files.as_slice(), work)?;
-    Ok(())
+    match store.walkers() {
+        Some(files) => walk_of(store, word, files, work),
+        None => {
+            let files = with_few_edges(store)?;
+            walk_of(store, word, files.as_slice(), work)
+        }
+    }
 }
 
 /// Whether an edge is to another than the sender of a walk and its origin.
@@ -210,7 +177,8 @@ fn meet_origin(
 {
     link_peer(store, file, walk.origin, walk.birth, work)?;
     let ends = ends_to(store, file, walk.birth);
-    post(store, walk.origin, Message::Meet { ends }, work)?;
+    let greeting = Greeting::Meet;
+    post(store, walk.origin, Message::Greet { ends, greeting }, work)?;
     Ok(())
 }
 

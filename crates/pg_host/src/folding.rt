@@ -19,15 +19,12 @@ use law_lengths::server::{Input, Server};
 use law_lengths::spelled::spelled;
 use pg_base::{Bytes, NodeId};
 use pg_event::Status;
-use pg_node_input::{read_input, read_start};
+use pg_node_input::{HEAD, read_input, read_start};
 use pg_saving::Checkpoint;
 use std::alloc::{AllocError, Global};
 
 /// The place of the first gate of a log.
 const FIRST_GATE: u64 = 16;
-
-/// The bytes before an entry behind the closed gate: the gate, and the entry's length.
-const HEAD: u64 = 5;
 
 /// A server to which nothing has come.
 fn begin(alloc: Global, server: NodeId, servers: u32) -> Result<Server, AllocError>

@@ -33,7 +33,7 @@ kind_of (message.Grant ends granted) = kind.Grant
 kind_of (message.NoGrant file birth) = kind.NoGrant
 kind_of (message.Full ends) = kind.Full
 kind_of (message.Seek file birth) = kind.Seek
-kind_of (message.Here ends) = kind.Here
+kind_of (message.Greet ends greeting) = kind.Greet greeting
 kind_of (message.NoneHere ask file child) = kind.NoneHere
 kind_of (message.Gone file birth) = kind.Gone
 kind_of (message.Bye ends) = kind.Bye
@@ -46,7 +46,6 @@ kind_of (message.Leave ends stamp) = kind.Leave
 kind_of (message.LeaveOk ends stamp) = kind.LeaveOk
 kind_of (message.Invite ends) = kind.Invite
 kind_of (message.Walk ends origin birth hops word) = kind.Walk
-kind_of (message.Meet ends) = kind.Meet
 
 -- the file that it is about: the directory, where it is about a child of one
 abbrev pub file_of : Message → FileId
@@ -62,7 +61,7 @@ file_of (message.Grant ends granted) = ends.file
 file_of (message.NoGrant file birth) = file
 file_of (message.Full ends) = ends.file
 file_of (message.Seek file birth) = file
-file_of (message.Here ends) = ends.file
+file_of (message.Greet ends greeting) = ends.file
 file_of (message.NoneHere ask file child) = file
 file_of (message.Gone file birth) = file
 file_of (message.Bye ends) = ends.file
@@ -75,7 +74,6 @@ file_of (message.Leave ends stamp) = ends.file
 file_of (message.LeaveOk ends stamp) = ends.file
 file_of (message.Invite ends) = ends.file
 file_of (message.Walk ends origin birth hops word) = ends.file
-file_of (message.Meet ends) = ends.file
 
 -- the key of a cell or of one that is acknowledged, the stamp of a version, or a child
 abbrev pub detail_of : Message → Detail
@@ -91,7 +89,7 @@ detail_of (message.Grant ends granted) = detail.Nothing
 detail_of (message.NoGrant file birth) = detail.Nothing
 detail_of (message.Full ends) = detail.Nothing
 detail_of (message.Seek file birth) = detail.Nothing
-detail_of (message.Here ends) = detail.Nothing
+detail_of (message.Greet ends greeting) = detail.Nothing
 detail_of (message.NoneHere ask file child) = detail.Child child
 detail_of (message.Gone file birth) = detail.Nothing
 detail_of (message.Bye ends) = detail.Nothing
@@ -104,7 +102,6 @@ detail_of (message.Leave ends stamp) = detail.Nothing
 detail_of (message.LeaveOk ends stamp) = detail.Nothing
 detail_of (message.Invite ends) = detail.Nothing
 detail_of (message.Walk ends origin birth hops word) = detail.Nothing
-detail_of (message.Meet ends) = detail.Nothing
 
 abbrev pub summary_of : ℕ → ℕ → Message → Summary
 summary_of from to m = record {

@@ -8,6 +8,8 @@ use Rattle.pg_edges.specs.declared.key.Key.{Key}
 use Rattle.pg_edges.specs.declared.key.Key.TheVariants.{Place, Flag, Entry, Version}
 use Rattle.pg_msg.specs.declared.summary.Detail.{Detail}
 use Rattle.pg_msg.specs.declared.summary.Detail.TheVariants as detail
+use Rattle.pg_msg.specs.declared.summary.Greeting.{Greeting}
+use Rattle.pg_msg.specs.declared.summary.Greeting.TheVariants as greeting
 use Rattle.pg_msg.specs.declared.summary.MessageKind.{MessageKind}
 use Rattle.pg_msg.specs.declared.summary.MessageKind.TheVariants as kind
 use Rattle.pg_msg.specs.declared.summary.Summary.{Summary}
@@ -20,6 +22,10 @@ key_text Place = codes "place"
 key_text (Flag server) = codes "flag:" ++ decimal server
 key_text (Entry child) = codes "entry:" ++ spelling child
 key_text (Version stamp) = codes "version:" ++ stamp_text stamp
+
+abbrev pub greeting_text : Greeting → List ℕ
+greeting_text greeting.Here = codes "here"
+greeting_text greeting.Meet = codes "meet"
 
 abbrev pub kind_text : MessageKind → List ℕ
 kind_text kind.Cell = codes "cell"
@@ -34,7 +40,7 @@ kind_text kind.Grant = codes "grant"
 kind_text kind.NoGrant = codes "nogrant"
 kind_text kind.Full = codes "full"
 kind_text kind.Seek = codes "seek"
-kind_text kind.Here = codes "here"
+kind_text (kind.Greet why) = greeting_text why
 kind_text kind.NoneHere = codes "nonehere"
 kind_text kind.Gone = codes "gone"
 kind_text kind.Bye = codes "bye"
@@ -47,7 +53,6 @@ kind_text kind.Leave = codes "leave"
 kind_text kind.LeaveOk = codes "leaveok"
 kind_text kind.Invite = codes "invite"
 kind_text kind.Walk = codes "walk"
-kind_text kind.Meet = codes "meet"
 
 -- a key, a stamp, a child, or a dash
 abbrev pub detail_text : Detail → List ℕ
@@ -92,7 +97,7 @@ sort_of kind.Grant = OfNothing
 sort_of kind.NoGrant = OfNothing
 sort_of kind.Full = OfNothing
 sort_of kind.Seek = OfNothing
-sort_of kind.Here = OfNothing
+sort_of (kind.Greet why) = OfNothing
 sort_of kind.NoneHere = OfChild
 sort_of kind.Gone = OfNothing
 sort_of kind.Bye = OfNothing
@@ -105,7 +110,6 @@ sort_of kind.Leave = OfNothing
 sort_of kind.LeaveOk = OfNothing
 sort_of kind.Invite = OfNothing
 sort_of kind.Walk = OfNothing
-sort_of kind.Meet = OfNothing
 
 -- a detail of that sort
 abbrev pub IsDetail : Sort → Detail → Type 0
@@ -140,7 +144,7 @@ IsAbout kind.Grant file = Fits file
 IsAbout kind.NoGrant file = Fits file
 IsAbout kind.Full file = Fits file
 IsAbout kind.Seek file = Fits file
-IsAbout kind.Here file = Fits file
+IsAbout (kind.Greet why) file = Fits file
 IsAbout kind.NoneHere file = Fits file
 IsAbout kind.Gone file = Fits file
 IsAbout kind.Bye file = Fits file
@@ -153,7 +157,6 @@ IsAbout kind.Leave file = Fits file
 IsAbout kind.LeaveOk file = Fits file
 IsAbout kind.Invite file = Fits file
 IsAbout kind.Walk file = Fits file
-IsAbout kind.Meet file = Fits file
 
 pub record IsSummary (s : Summary) : Type 0 where
   pub sender : s.from < 2 ^ 32

@@ -17,7 +17,8 @@
 //! Definitions: `specs/Ends`, `Sent`, `Work`, `Numbers`, and `Text`, `UpdateText`, `VersionWords`
 //! for what is printed. docs/RULES.md: "Cells, answers and ticks" and what follows it, by kind;
 //! docs/FORMATS.md, section 2. A further kind of message is a case of `Message` and `MessageKind`,
-//! what it tells in `summary` and its numbers in `specs/Numbers`; and a handler above.
+//! what it tells in `summary` and its numbers in `specs/Numbers`; and a handler above. One that
+//! only links its sender is a case of `Greeting`, with its word.
 #![tactic(auto)]
 
 mod key_word;
@@ -30,6 +31,6 @@ mod work;
 
 pub use key_word::{KeyWord, one_key_spelling, read_key};
 pub use message::{Ask, Delta, Ends, Granted, Message, Packet, Piece, Sent, Wanted, key_of};
-pub use summary::{Detail, MessageKind, Summary, one_summary_spelling, read_summary};
+pub use summary::{Detail, Greeting, MessageKind, Summary, one_summary_spelling, read_summary};
 pub use update::{MadeVersion, Update, one_update_spelling, read_update};
 pub use work::{Linked, Slot, Touched, Work};

@@ -4,7 +4,7 @@ ghost use Rattle.std.specs.Prelude.{◌≡◌, IfOk};
 ghost use Rattle.pg_msg.specs.Ends.{back};
 ghost use Rattle.pg_msg.specs.Sent.{cell_key, detail_of, file_of, kind_of, summary_of, summary};
 
-use crate::summary::{Detail, MessageKind, Summary};
+use crate::summary::{Detail, Greeting, MessageKind, Summary};
 use pg_base::{FileId, Head, Items, NodeId, Policy, Shared, SharedBytes, Stamp};
 use pg_edges::Key;
 use pg_entries::{Cell, Entry};
@@ -143,9 +143,10 @@ pub enum Message {
         file: FileId,
         birth: u64,
     },
-    /// The sender's replica is here, in answer to that.
-    Here {
+    /// The sender's replica is here: the receiver's links it. The greeting tells why it is sent.
+    Greet {
         ends: Ends,
+        greeting: Greeting,
     },
     /// The sender does not hold what it was asked about.
     NoneHere {
@@ -211,10 +212,6 @@ pub enum Message {
         hops: u8,
         word: u64,
     },
-    /// The walk of the receiver's replica ended at the sender's.
-    Meet {
-        ends: Ends,
-    },
 }
 
 impl Message {
@@ -235,7 +232,7 @@ impl Message {
             Message::NoGrant { .. } => MessageKind::NoGrant,
             Message::Full { .. } => MessageKind::Full,
             Message::Seek { .. } => MessageKind::Seek,
-            Message::Here { .. } => MessageKind::Here,
+            Message::Greet { greeting, .. } => MessageKind::Greet(*greeting),
             Message::NoneHere { .. } => MessageKind::NoneHere,
             Message::Gone { .. } => MessageKind::Gone,
             Message::Bye { .. } => MessageKind::Bye,
@@ -248,7 +245,6 @@ impl Message {
             Message::LeaveOk { .. } => MessageKind::LeaveOk,
             Message::Invite { .. } => MessageKind::Invite,
             Message::Walk { .. } => MessageKind::Walk,
-            Message::Meet { .. } => MessageKind::Meet,
         }
     }
 
@@ -269,7 +265,7 @@ impl Message {
             Message::NoGrant { file, .. } => *file,
             Message::Full { ends } => ends.file,
             Message::Seek { file, .. } => *file,
-            Message::Here { ends } => ends.file,
+            Message::Greet { ends, .. } => ends.file,
             Message::NoneHere { file, .. } => *file,
             Message::Gone { file, .. } => *file,
             Message::Bye { ends } => ends.file,
@@ -282,7 +278,6 @@ impl Message {
             Message::LeaveOk { ends, .. } => ends.file,
             Message::Invite { ends } => ends.file,
             Message::Walk { ends, .. } => ends.file,
-            Message::Meet { ends } => ends.file,
         }
     }
 
@@ -303,7 +298,7 @@ impl Message {
             Message::NoGrant { .. } => Detail::Nothing,
             Message::Full { .. } => Detail::Nothing,
             Message::Seek { .. } => Detail::Nothing,
-            Message::Here { .. } => Detail::Nothing,
+            Message::Greet { .. } => Detail::Nothing,
             Message::NoneHere { child, .. } => Detail::Child(*child),
             Message::Gone { .. } => Detail::Nothing,
             Message::Bye { .. } => Detail::Nothing,
@@ -316,7 +311,6 @@ impl Message {
             Message::LeaveOk { .. } => Detail::Nothing,
             Message::Invite { .. } => Detail::Nothing,
             Message::Walk { .. } => Detail::Nothing,
-            Message::Meet { .. } => Detail::Nothing,
         }
     }
 
@@ -357,7 +351,7 @@ impl Message {
             &Message::NoGrant { file, birth } => Message::NoGrant { file, birth },
             &Message::Full { ends } => Message::Full { ends },
             &Message::Seek { file, birth } => Message::Seek { file, birth },
-            &Message::Here { ends } => Message::Here { ends },
+            &Message::Greet { ends, greeting } => Message::Greet { ends, greeting },
             &Message::NoneHere { ask, file, child } => Message::NoneHere { ask, file, child },
             &Message::Gone { file, birth } => Message::Gone { file, birth },
             &Message::Bye { ends } => Message::Bye { ends },
@@ -391,7 +385,6 @@ impl Message {
                 hops: *hops,
                 word: *word,
             },
-            &Message::Meet { ends } => Message::Meet { ends },
         })
     }
 

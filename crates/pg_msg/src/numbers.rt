@@ -43,7 +43,7 @@ impl Message {
             Message::NoGrant { .. } => true,
             Message::Full { .. } => true,
             Message::Seek { .. } => true,
-            Message::Here { .. } => true,
+            Message::Greet { .. } => true,
             Message::NoneHere { .. } => true,
             Message::Gone { .. } => true,
             Message::Bye { .. } => true,
@@ -56,7 +56,6 @@ impl Message {
             Message::LeaveOk { stamp, .. } => has_time_in_range(stamp),
             Message::Invite { .. } => true,
             Message::Walk { .. } => true,
-            Message::Meet { .. } => true,
         }
     }
 }

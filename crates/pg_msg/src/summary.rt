@@ -3,7 +3,7 @@
 ghost use Rattle.std.specs.Prelude.{◌≡◌, ◌<◌, ◌^◌, ℕ, map, decimal, IfSome, IfNone};
 ghost use Rattle.pg_base.specs.Id.{spelling};
 ghost use Rattle.pg_base.specs.declared.id.FileId.{FileId};
-ghost use Rattle.pg_msg.specs.Text.{detail_text, kind_text, sort_of, summary_words, IsAbout, IsDetail, IsSummary};
+ghost use Rattle.pg_msg.specs.Text.{detail_text, greeting_text, kind_text, sort_of, summary_words, IsAbout, IsDetail, IsSummary};
 ghost use Rattle.pg_msg.specs.declared.summary.Detail.{Detail};
 ghost use Rattle.pg_msg.specs.declared.summary.MessageKind as kind;
 ghost use Rattle.pg_msg.specs.declared.summary.Summary.{Summary};
@@ -13,6 +13,15 @@ use pg_base::{FileId, NodeId, Stamp, number_u32};
 use pg_edges::Key;
 use pg_words::{is_same, read_directory, read_id, read_stamp};
 use std::fmt;
+
+/// Why the receiver is to link the sender's replica: the messages that do no more differ in it.
+#[derive(Clone, Copy, Debug, PartialEq, Eq)]
+pub enum Greeting {
+    /// The receiver's replica looked for a live gold one.
+    Here,
+    /// The walk of the receiver's replica ended at the sender's.
+    Meet,
+}
 
 /// The kinds of messages.
 #[derive(Clone, Copy, Debug, PartialEq, Eq)]
@@ -29,7 +38,7 @@ pub enum MessageKind {
     NoGrant,
     Full,
     Seek,
-    Here,
+    Greet(Greeting),
     NoneHere,
     Gone,
     Bye,
@@ -42,7 +51,6 @@ pub enum MessageKind {
     LeaveOk,
     Invite,
     Walk,
-    Meet,
 }
 
 /// What a journal tells of a message besides its kind and its file.
@@ -68,6 +76,15 @@ pub struct Summary {
     pub detail: Detail,
 }
 
+fn greeting_word(greeting: Greeting) -> &'static str
+    ensures { result.now ≡ greeting_text greeting }
+{
+    match greeting {
+        Greeting::Here => "here",
+        Greeting::Meet => "meet",
+    }
+}
+
 impl fmt::Display for MessageKind {
     ghost use Rattle.std.specs.Prelude.{Some};
     ghost use Rattle.pg_msg.specs.Text.{kind_text};
@@ -88,7 +105,7 @@ impl fmt::Display for MessageKind {
             MessageKind::NoGrant => "nogrant",
             MessageKind::Full => "full",
             MessageKind::Seek => "seek",
-            MessageKind::Here => "here",
+            MessageKind::Greet(greeting) => greeting_word(*greeting),
             MessageKind::NoneHere => "nonehere",
             MessageKind::Gone => "gone",
             MessageKind::Bye => "bye",
@@ -101,7 +118,6 @@ impl fmt::Display for MessageKind {
             MessageKind::LeaveOk => "leaveok",
             MessageKind::Invite => "invite",
             MessageKind::Walk => "walk",
-            MessageKind::Meet => "meet",
         })
     }
 }
@@ -159,7 +175,7 @@ fn kind_of(word: &[u8]) -> Option<MessageKind>
         b"nogrant" => Some(MessageKind::NoGrant),
         b"full" => Some(MessageKind::Full),
         b"seek" => Some(MessageKind::Seek),
-        b"here" => Some(MessageKind::Here),
+        b"here" => Some(MessageKind::Greet(Greeting::Here)),
         b"nonehere" => Some(MessageKind::NoneHere),
         b"gone" => Some(MessageKind::Gone),
         b"bye" => Some(MessageKind::Bye),
@@ -172,7 +188,7 @@ fn kind_of(word: &[u8]) -> Option<MessageKind>
         b"leaveok" => Some(MessageKind::LeaveOk),
         b"invite" => Some(MessageKind::Invite),
         b"walk" => Some(MessageKind::Walk),
-        b"meet" => Some(MessageKind::Meet),
+        b"meet" => Some(MessageKind::Greet(Greeting::Meet)),
         _ => None,
     }
 }

@@ -15,12 +15,21 @@ use std::time::Duration;
 /// How long a take waits for a packet.
 const PATIENCE_SECONDS: u64 = 1;
 
+/// So often a take that comes behind a packet looks for the next one before it waits. It takes some
+/// 25 microseconds, about as long as a client needs for an answer and its next question.
+const LOOKS: u32 = 100;
+
 /// UDP on 127.0.0.1. A take is Idle after one second without a packet. Each error of the system is
 /// a failure, an interrupted call too, and so is a take or a send before a port was bound.
+///
+/// To wait and to be woken takes longer than most packets do. So behind a packet a take looks for
+/// the next one some times before it waits, and then takes a packet that comes soon at once.
 #[derive(Drop)]
 pub struct UdpNet<R> {
     system: R,
     socket: Option<UdpSocket>,
+    /// Whether the socket waits for a packet, and does not answer at once that there is none.
+    waits: bool,
     takes: u64,
     faults: u64,
 }
@@ -33,6 +42,7 @@ impl<R> UdpNet<R> {
         UdpNet {
             system,
             socket: None,
+            waits: true,
             takes: 0,
             faults: 0,
         }
@@ -51,22 +61,62 @@ impl<R> UdpNet<R> {
     {
         self.faults
     }
+}
 
-    fn receive(&self, buf: &mut [u8]) -> io::Result<Taken>
-        ensures { IfOk result (λ answer. IsWithin 40_001 answer) }
-    {
-        let Some(socket) = &self.socket else {
-            return Err(io::Error::from(ErrorKind::NotConnected));
-        };
-        match socket.recv_from(buf) {
-            Ok((length, from)) => Ok(Taken::Packet {
-                port: from.port(),
-                length: length.min(LONGEST),
-            }),
-            Err(e) if e.kind() == ErrorKind::WouldBlock => Ok(Taken::Idle),
-            Err(e) => Err(e),
+/// Takes a packet. Where the socket waits and none comes in time, or where it does not wait and
+/// there is none, it is Idle.
+fn look(socket: &UdpSocket, buf: &mut [u8]) -> io::Result<Taken>
+    ensures { IfOk result (λ answer. IsWithin 40_001 answer) }
+{
+    match socket.recv_from(buf) {
+        Ok((length, from)) => Ok(Taken::Packet {
+            port: from.port(),
+            length: length.min(LONGEST),
+        }),
+        Err(e) if e.kind() == ErrorKind::WouldBlock => Ok(Taken::Idle),
+        Err(e) => Err(e),
+    }
+}
+
+/// Looks for a packet some times. The socket does not wait.
+fn look_often(socket: &UdpSocket, buf: &mut [u8]) -> io::Result<Taken>
+    ensures { IfOk result (λ answer. IsWithin 40_001 answer) }
+{
+    for _look in 0..LOOKS {
+        let found = look(socket, buf)?;
+        if found != Taken::Idle {
+            return Ok(found);
         }
     }
+    Ok(Taken::Idle)
+}
+
+/// Waits for a packet. Behind one the socket does not wait any more.
+fn wait(socket: &UdpSocket, waits: &mut bool, buf: &mut [u8]) -> io::Result<Taken>
+    ensures { IfOk result (λ answer. IsWithin 40_001 answer) }
+{
+    if !*waits {
+        socket.set_nonblocking(false)?;
+        *waits = true;
+    }
+    let found = look(socket, buf)?;
+    if found != Taken::Idle {
+        *waits = socket.set_nonblocking(true).is_err();
+    }
+    Ok(found)
+}
+
+/// Takes a packet: it looks for one where the socket does not wait, and then waits for one.
+fn receive(socket: &UdpSocket, waits: &mut bool, buf: &mut [u8]) -> io::Result<Taken>
+    ensures { IfOk result (λ answer. IsWithin 40_001 answer) }
+{
+    if !*waits {
+        let found = look_often(socket, buf)?;
+        if found != Taken::Idle {
+            return Ok(found);
+        }
+    }
+    wait(socket, waits, buf)
 }
 
 impl<R: std::net::Net> UdpNet<R> {
@@ -90,6 +140,7 @@ impl<R: std::net::Net> Net for UdpNet<R> {
         match self.open(port) {
             Ok(socket) => {
                 self.socket = Some(socket);
+                self.waits = true;
                 Ok(())
             }
             Err(_) => Err(Failed::counted(&mut self.faults)),
@@ -97,7 +148,11 @@ impl<R: std::net::Net> Net for UdpNet<R> {
     }
 
     fn take(&mut self, buf: &mut [u8]) -> Result<Taken, Failed> {
-        match self.receive(buf) {
+        let answer = match &self.socket {
+            Some(socket) => receive(socket, &mut self.waits, buf),
+            None => Err(io::Error::from(ErrorKind::NotConnected)),
+        };
+        match answer {
             Ok(answer) => {
                 self.takes = self.takes.saturating_add(1);
                 Ok(answer)

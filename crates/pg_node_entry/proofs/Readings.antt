@@ -11,6 +11,7 @@ use Rattle.pg_codec.proofs.Binding.{bind_ok, ok_is}
 use Rattle.pg_msg.specs.declared.message.Message.{Message}
 use Rattle.pg_msg.specs.declared.message.Message.TheVariants as message
 use Rattle.pg_msg.specs.declared.message.Packet.{Packet}
+use Rattle.pg_msg.specs.declared.summary.Greeting.TheVariants as greeting
 use Rattle.pg_node_entry.specs.Entries.{FitsEntry, IsWholeArrival, IsWholeEntry, carrier, entry_bytes}
 use Rattle.pg_node_entry.specs.Reading.{Gives, arrival_of, begins_other, carried, ended, entry_at, entry_of, message_in, placed, plain_of}
 use Rattle.pg_node_entry.specs.declared.entry.NodeEntry.{NodeEntry}
@@ -85,6 +86,7 @@ message_packet from view m = record { from = from; view = view; content = conten
 begins_message : (from view : ℕ) (m : Message) → begins_other (packet_bytes (message_packet from view m)) ≡ false
 unfolding begins_other packet_bytes number_bytes
 begins_message from view (message.Cell ends tag cell) = and_no (nat_lt 3 (length (packet_bytes (message_packet from view (message.Cell ends tag cell)))))
+begins_message from view (message.Greet ends greeting.Here) = and_no (nat_lt 3 (length (packet_bytes (message_packet from view (message.Greet ends greeting.Here)))))
 begins_message from view m = and_no (nat_lt 3 (length (packet_bytes (message_packet from view m))))
 
 arrival_written : (p : Packet) → IsWholeArrival p → arrival_of (packet_bytes (carrier p)) ≡ Ok (entry.Arrival p)

@@ -17,4 +17,4 @@
 
 mod noting;
 
-pub use noting::{input, noted, read_input, read_start};
+pub use noting::{HEAD, input, noted, read_input, read_start};

@@ -15,7 +15,7 @@ use pg_node_entry::{EntryError, NodeEntry, entries_read_back, faults_are_within,
 use std::alloc::Global;
 
 /// The bytes before an entry behind the closed gate: the gate, and the entry's length.
-const HEAD: u64 = 5;
+pub const HEAD: u64 = 5;
 
 /// What a log notes of an input.
 pub fn noted(input: Input) -> NodeEntry

@@ -68,9 +68,7 @@ small (asked.Call k) = omega arith
 small asked.Tick = omega arith
 
 kind_field : IsField Any (λ k. number_bytes 1 (request_number k)) (item_at request_kinds)
-kind_field = item_is request_kinds request_number
-    (refl, (refl, (refl, (refl, (refl, (refl, (refl, (refl, (refl, (refl, (refl, (refl, (refl, (refl, (refl, (refl, (refl, (refl, tt))))))))))))))))))
-    there small
+kind_field = item_is request_kinds request_number refl there small
 
 -- ---- calls
 

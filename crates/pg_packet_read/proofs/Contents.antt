@@ -11,10 +11,11 @@ use Rattle.pg_packet_read.specs.declared.kinds.PacketKind.TheVariants as packet
 use Rattle.pg_msg.specs.Sent as sent
 use Rattle.pg_msg.specs.declared.message.Message.{Message}
 use Rattle.pg_msg.specs.declared.message.Message.TheVariants as message
+use Rattle.pg_msg.specs.declared.summary.Greeting.TheVariants as greeting
 use Rattle.pg_msg.specs.declared.summary.MessageKind.{MessageKind}
 use Rattle.pg_msg.specs.declared.summary.MessageKind.TheVariants as kind
 use Rattle.pg_packet_write.specs.Datagrams.{content_bytes, kind_of, mark, packet_bytes}
-use Rattle.pg_packet_write.specs.Messages.{code_of}
+use Rattle.pg_packet_write.specs.Messages.{code_of, greeting_code}
 use Rattle.pg_packet_write.specs.declared.datagram.Content.{Content}
 use Rattle.pg_packet_write.specs.declared.datagram.Content.TheVariants as content
 use Rattle.pg_packet_write.specs.DatagramValue.{DatagramValue}
@@ -85,7 +86,7 @@ packet_number (packet.Message kind.Grant) = 9
 packet_number (packet.Message kind.NoGrant) = 10
 packet_number (packet.Message kind.Full) = 11
 packet_number (packet.Message kind.Seek) = 12
-packet_number (packet.Message kind.Here) = 13
+packet_number (packet.Message (kind.Greet why)) = greeting_code why
 packet_number (packet.Message kind.NoneHere) = 14
 packet_number (packet.Message kind.Gone) = 15
 packet_number (packet.Message kind.Bye) = 16
@@ -98,26 +99,25 @@ packet_number (packet.Message kind.Leave) = 22
 packet_number (packet.Message kind.LeaveOk) = 23
 packet_number (packet.Message kind.Invite) = 24
 packet_number (packet.Message kind.Walk) = 25
-packet_number (packet.Message kind.Meet) = 26
 packet_number packet.Call = 27
 packet_number packet.Reply = 28
 
 there : (k : PacketKind) → numbered packet_kinds (packet_number k) ≡ Some k
 there (packet.Message kind.Cell) = refl
+there (packet.Message (kind.Greet greeting.Here)) = refl
 there (packet.Message k) = refl
 there packet.Call = refl
 there packet.Reply = refl
 
 small : (k : PacketKind) → HasWidth 1 (packet_number k)
 small (packet.Message kind.Cell) = omega arith
+small (packet.Message (kind.Greet greeting.Here)) = omega arith
 small (packet.Message k) = omega arith
 small packet.Call = omega arith
 small packet.Reply = omega arith
 
 kind_field : IsField Any (λ k. number_bytes 1 (packet_number k)) (item_at packet_kinds)
-kind_field = item_is packet_kinds packet_number
-    (refl, (refl, (refl, (refl, (refl, (refl, (refl, (refl, (refl, (refl, (refl, (refl, (refl, (refl, (refl, (refl, (refl, (refl, (refl, (refl, (refl, (refl, (refl, (refl, (refl, (refl, (refl, (refl, tt))))))))))))))))))))))))))))
-    there small
+kind_field = item_is packet_kinds packet_number refl there small
 
 -- ---- what the kinds say
 

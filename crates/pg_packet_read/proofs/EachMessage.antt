@@ -48,7 +48,7 @@ Parts kind.Grant = Ends × Granted
 Parts kind.NoGrant = FileId × ℕ
 Parts kind.Full = Ends
 Parts kind.Seek = FileId × ℕ
-Parts kind.Here = Ends
+Parts (kind.Greet why) = Ends
 Parts kind.NoneHere = Ask × (FileId × FileId)
 Parts kind.Gone = FileId × ℕ
 Parts kind.Bye = Ends
@@ -61,7 +61,6 @@ Parts kind.Leave = Ends × Stamp
 Parts kind.LeaveOk = Ends × Stamp
 Parts kind.Invite = Ends
 Parts kind.Walk = Ends × (ℕ × (ℕ × (ℕ × ℕ)))
-Parts kind.Meet = Ends
 
 abbrev made : (k : MessageKind) → Parts k → Message
 made kind.Cell x = message.Cell x.0 x.1.0 x.1.1
@@ -76,7 +75,7 @@ made kind.Grant x = message.Grant x.0 x.1
 made kind.NoGrant x = message.NoGrant x.0 x.1
 made kind.Full x = message.Full x
 made kind.Seek x = message.Seek x.0 x.1
-made kind.Here x = message.Here x
+made (kind.Greet why) x = message.Greet x why
 made kind.NoneHere x = message.NoneHere x.0 x.1.0 x.1.1
 made kind.Gone x = message.Gone x.0 x.1
 made kind.Bye x = message.Bye x
@@ -89,7 +88,6 @@ made kind.Leave x = message.Leave x.0 x.1
 made kind.LeaveOk x = message.LeaveOk x.0 x.1
 made kind.Invite x = message.Invite x
 made kind.Walk x = message.Walk x.0 x.1.0 x.1.1.0 x.1.1.1.0 x.1.1.1.1
-made kind.Meet x = message.Meet x
 
 abbrev parts_at : (k : MessageKind) → Field PacketError (Parts k)
 parts_at kind.Cell = followed_by ends_at (λ ends. followed_by (of_packet (number_at 8)) (λ tag. cell_at))
@@ -104,7 +102,7 @@ parts_at kind.Grant = followed_by ends_at (λ ends. granted_at)
 parts_at kind.NoGrant = replica_at
 parts_at kind.Full = ends_at
 parts_at kind.Seek = replica_at
-parts_at kind.Here = ends_at
+parts_at (kind.Greet why) = ends_at
 parts_at kind.NoneHere = followed_by ask_at (λ ask. followed_by (of_packet file_at) (λ file. of_packet file_at))
 parts_at kind.Gone = replica_at
 parts_at kind.Bye = ends_at
@@ -117,7 +115,6 @@ parts_at kind.Leave = about_at
 parts_at kind.LeaveOk = about_at
 parts_at kind.Invite = ends_at
 parts_at kind.Walk = followed_by ends_at (λ ends. followed_by server_at (λ origin. followed_by (of_packet (number_at 8)) (λ birth. followed_by hops_at (λ hops. of_packet (number_at 8)))))
-parts_at kind.Meet = ends_at
 
 kind_made : (k : MessageKind) (x : Parts k) → kind_of (made k x) ≡ k
 kind_made kind.Cell x = refl
@@ -136,7 +133,7 @@ parts_of (message.Grant ends granted) = ((ends, granted), refl)
 parts_of (message.NoGrant file birth) = ((file, birth), refl)
 parts_of (message.Full ends) = (ends, refl)
 parts_of (message.Seek file birth) = ((file, birth), refl)
-parts_of (message.Here ends) = (ends, refl)
+parts_of (message.Greet ends why) = (ends, refl)
 parts_of (message.NoneHere ask file child) = ((ask, (file, child)), refl)
 parts_of (message.Gone file birth) = ((file, birth), refl)
 parts_of (message.Bye ends) = (ends, refl)
@@ -149,7 +146,6 @@ parts_of (message.Leave ends stamp) = ((ends, stamp), refl)
 parts_of (message.LeaveOk ends stamp) = ((ends, stamp), refl)
 parts_of (message.Invite ends) = (ends, refl)
 parts_of (message.Walk ends origin birth hops word) = ((ends, (origin, (birth, (hops, word)))), refl)
-parts_of (message.Meet ends) = (ends, refl)
 
 fields : (k : MessageKind) → IsField (λ (x : Parts k). IsWholeMessage (made k x)) (λ (x : Parts k). message_bytes (made k x)) (parts_at k)
 unfolding message_bytes walk_bytes
@@ -165,7 +161,7 @@ fields kind.Grant = then_is ends_field granted_field
 fields kind.NoGrant = replica_field
 fields kind.Full = ends_field
 fields kind.Seek = replica_field
-fields kind.Here = ends_field
+fields (kind.Greet why) = ends_field
 fields kind.NoneHere = then_is ask_field (then_is file_is file_is)
 fields kind.Gone = replica_field
 fields kind.Bye = ends_field
@@ -178,7 +174,6 @@ fields kind.Leave = about_field
 fields kind.LeaveOk = about_field
 fields kind.Invite = ends_field
 fields kind.Walk = then_is ends_field (then_is server_field (then_is wide_is (then_is hops_field wide_is)))
-fields kind.Meet = ends_field
 
 abbrev IsOf : MessageKind → Message → Type 0
 IsOf k m = IsWholeMessage m × (kind_of m ≡ k)

@@ -1,5 +1,6 @@
 -- Kinds by their numbers are fields.
-use Rattle.std.proofs.Common.{◌≡◌, ℕ, zero, suc, ◌+◌, List, [], ◌∷◌, Option, Some, None, Ok, refl, sym, ap, ◌∙◌, arith}
+use Rattle.std.proofs.Common.{◌≡◌, ℕ, zero, suc, ◌+◌, Bool, true, false, cond, eqb, List, [], ◌∷◌, Option, Some, None, Ok, refl, sym, ap, ◌∙◌, arith}
+use Rattle.std.proofs.lemmas.Bool.{eqb-true}
 use Rattle.std.specs.Prelude.{slice_get}
 use Rattle.pg_codec.specs.Laws.{Any, HasWidth, IsField}
 use Rattle.pg_codec.specs.Reading.{number_at}
@@ -12,25 +13,33 @@ use Rattle.pg_packet_fields.proofs.Plain.{byte_is}
 use Rattle.pg_packet_read.specs.Numbered.{item_at, numbered, or_bad}
 
 -- each has the next number
-abbrev pub AreNumbered : {X : Type 0} → (X → ℕ) → ℕ → List X → Type 0
-AreNumbered number from [] = Unit {0}
-AreNumbered number from (x ∷ xs) = (number x ≡ from) × AreNumbered number (suc from) xs
+abbrev pub are_numbered : {X : Type 0} → (X → ℕ) → ℕ → List X → Bool
+are_numbered number from [] = true
+are_numbered number from (x ∷ xs) = cond (eqb (number x) from) (are_numbered number (suc from) xs) false
+
+-- the first has this one, and the others the next
+numbered_parts : {X : Type 0} (number : X → ℕ) (from : ℕ) (x : X) (xs : List X) (t : Bool) → eqb (number x) from ≡ t
+    → cond t (are_numbered number (suc from) xs) false ≡ true → (number x ≡ from) × (are_numbered number (suc from) xs ≡ true)
+numbered_parts number from x xs true is are = (eqb-true (number x) from is, are)
+numbered_parts number from x xs false is are = absurd cc
 
 one_of : {X : Type 0} (x y : X) → Some x ≡ Some y → x ≡ y
 one_of x y e = cc
 
-number_there : {X : Type 0} (number : X → ℕ) (from : ℕ) (xs : List X) (i : ℕ) (x : X) → AreNumbered number from xs → slice_get xs i ≡ Some x
+number_there : {X : Type 0} (number : X → ℕ) (from : ℕ) (xs : List X) (i : ℕ) (x : X) → are_numbered number from xs ≡ true → slice_get xs i ≡ Some x
     → number x ≡ i + from
 number_there number from [] i x are e = absurd cc
 number_there number from (y ∷ ys) zero x are e =
     let same : y ≡ x = one_of y x e in
-    let first : number x ≡ from = ap number (sym same) ∙ are.0 in
+    let parts = numbered_parts number from y ys (eqb (number y) from) refl are in
+    let first : number x ≡ from = ap number (sym same) ∙ parts.0 in
     omega (arith, first)
 number_there number from (y ∷ ys) (suc i) x are e =
-    let later = number_there number (suc from) ys i x are.1 e in
+    let parts = numbered_parts number from y ys (eqb (number y) from) refl are in
+    let later = number_there number (suc from) ys i x parts.1 e in
     omega (arith, later)
 
-number_is : {X : Type 0} (number : X → ℕ) (xs : List X) (n : ℕ) (x : X) → AreNumbered number 1 xs → numbered xs n ≡ Some x → number x ≡ n
+number_is : {X : Type 0} (number : X → ℕ) (xs : List X) (n : ℕ) (x : X) → are_numbered number 1 xs ≡ true → numbered xs n ≡ Some x → number x ≡ n
 number_is number xs zero x are e = absurd cc
 number_is number xs (suc i) x are e = let there = number_there number 1 xs i x are e in omega (arith, there)
 
@@ -38,7 +47,7 @@ not_bad : {X : Type 0} (place : ℕ) (o : Option X) (x : X) → or_bad place o �
 not_bad place None x e = absurd cc
 not_bad place (Some y) x e = ap (λ z. Some z) (ok_is PacketError y x e)
 
-pub item_is : {X : Type 0} (items : List X) (number : X → ℕ) → AreNumbered number 1 items → ((x : X) → numbered items (number x) ≡ Some x)
+pub item_is : {X : Type 0} (items : List X) (number : X → ℕ) → are_numbered number 1 items ≡ true → ((x : X) → numbered items (number x) ≡ Some x)
     → ((x : X) → HasWidth 1 (number x)) → IsField Any (λ x. number_bytes 1 (number x)) (item_at items)
 unfolding item_at
 item_is items number are there width = checked_is (λ place n. or_bad place (numbered items n)) (HasWidth 1) (number_bytes 1) (of_packet (number_at 1)) Any (λ x. number_bytes 1 (number x))

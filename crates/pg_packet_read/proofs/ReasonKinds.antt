@@ -56,9 +56,7 @@ small kind.BadPath = omega arith
 small k = omega arith
 
 kind_field : IsField Any (λ k. number_bytes 1 (refusal_number k)) (item_at refusal_kinds)
-kind_field = item_is refusal_kinds refusal_number
-    (refl, (refl, (refl, (refl, (refl, (refl, (refl, (refl, (refl, (refl, (refl, (refl, (refl, (refl, (refl, (refl, (refl, (refl, (refl, (refl, tt))))))))))))))))))))
-    there small
+kind_field = item_is refusal_kinds refusal_number refl there small
 
 unsettled_there : (u : Unsettled) → numbered unsettleds (unsettled_number u) ≡ Some u
 unsettled_there (unsettled.Intent intent.Bye) = refl
@@ -71,7 +69,7 @@ unsettled_small (unsettled.Intent k) = omega arith
 unsettled_small unsettled.Cell = omega arith
 
 unsettled_field : IsField Any (λ u. number_bytes 1 (unsettled_number u)) (item_at unsettleds)
-unsettled_field = item_is unsettleds unsettled_number (refl, (refl, (refl, (refl, (refl, (refl, (refl, tt))))))) unsettled_there unsettled_small
+unsettled_field = item_is unsettleds unsettled_number refl unsettled_there unsettled_small
 
 -- ---- refusals
 

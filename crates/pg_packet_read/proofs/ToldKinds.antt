@@ -52,7 +52,7 @@ small kind.Done = omega arith
 small k = omega arith
 
 kind_field : IsField Any (λ k. number_bytes 1 (reply_number k)) (item_at reply_kinds)
-kind_field = item_is reply_kinds reply_number (refl, (refl, (refl, (refl, (refl, (refl, (refl, (refl, (refl, tt))))))))) there small
+kind_field = item_is reply_kinds reply_number refl there small
 
 -- ---- replies
 

@@ -29,7 +29,7 @@ fits_message (message.Grant ends granted) w = record { place = fits_place grante
 fits_message (message.NoGrant file birth) w = tt
 fits_message (message.Full ends) w = tt
 fits_message (message.Seek file birth) w = tt
-fits_message (message.Here ends) w = tt
+fits_message (message.Greet ends why) w = tt
 fits_message (message.NoneHere ask file child) w = tt
 fits_message (message.Gone file birth) w = tt
 fits_message (message.Bye ends) w = tt
@@ -42,4 +42,3 @@ fits_message (message.Leave ends stamp) w = tt
 fits_message (message.LeaveOk ends stamp) w = tt
 fits_message (message.Invite ends) w = tt
 fits_message (message.Walk ends origin birth hops word) w = record { origin = w.1.0; least = w.1.1.1.0.least; most = w.1.1.1.0.most }
-fits_message (message.Meet ends) w = tt

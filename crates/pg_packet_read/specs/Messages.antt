@@ -38,7 +38,7 @@ message_at kind.Grant from =
 message_at kind.NoGrant from = seen_as (λ x. message.NoGrant x.0 x.1) replica_at from
 message_at kind.Full from = seen_as (λ x. message.Full x) ends_at from
 message_at kind.Seek from = seen_as (λ x. message.Seek x.0 x.1) replica_at from
-message_at kind.Here from = seen_as (λ x. message.Here x) ends_at from
+message_at (kind.Greet why) from = seen_as (λ x. message.Greet x why) ends_at from
 message_at kind.NoneHere from = seen_as (λ x. message.NoneHere x.0 x.1.0 x.1.1) (followed_by ask_at
     (λ ask. followed_by (of_packet file_at) (λ file. of_packet file_at))) from
 message_at kind.Gone from = seen_as (λ x. message.Gone x.0 x.1) replica_at from
@@ -56,7 +56,6 @@ message_at kind.Walk from =
     seen_as (λ x. message.Walk x.0 x.1.0 x.1.1.0 x.1.1.1.0 x.1.1.1.1) (followed_by ends_at
     (λ ends. followed_by server_at (λ origin. followed_by (of_packet (number_at 8))
     (λ birth. followed_by hops_at (λ hops. of_packet (number_at 8)))))) from
-message_at kind.Meet from = seen_as (λ x. message.Meet x) ends_at from
 
 -- what can be read: of each kind what its fields can have, in their order
 abbrev pub IsWholeMessage : Message → Type 0
@@ -72,7 +71,7 @@ IsWholeMessage (message.Grant ends granted) = AreEnds ends × IsGranted granted
 IsWholeMessage (message.NoGrant file birth) = Fits file × HasWidth 8 birth
 IsWholeMessage (message.Full ends) = AreEnds ends
 IsWholeMessage (message.Seek file birth) = Fits file × HasWidth 8 birth
-IsWholeMessage (message.Here ends) = AreEnds ends
+IsWholeMessage (message.Greet ends why) = AreEnds ends
 IsWholeMessage (message.NoneHere ask file child) = Any ask × (Fits file × Fits child)
 IsWholeMessage (message.Gone file birth) = Fits file × HasWidth 8 birth
 IsWholeMessage (message.Bye ends) = AreEnds ends
@@ -87,4 +86,3 @@ IsWholeMessage (message.LeaveOk ends stamp) = AreEnds ends × HasStampWidth stam
 IsWholeMessage (message.Invite ends) = AreEnds ends
 IsWholeMessage (message.Walk ends origin birth hops word) =
     AreEnds ends × (IsServer origin × (HasWidth 8 birth × (IsHops hops × HasWidth 8 word)))
-IsWholeMessage (message.Meet ends) = AreEnds ends

@@ -5,6 +5,7 @@ use Rattle.pg_codec.specs.Reading.{Field, ◌>>=◌, followed_by, seen_as, check
 use Rattle.pg_codec.specs.Unread.{Unread}
 use Rattle.pg_packet_read.specs.declared.kinds.PacketKind.{PacketKind}
 use Rattle.pg_packet_read.specs.declared.kinds.PacketKind.TheVariants as packet
+use Rattle.pg_msg.specs.declared.summary.Greeting.TheVariants as greeting
 use Rattle.pg_msg.specs.declared.summary.MessageKind.TheVariants as kind
 use Rattle.pg_packet_write.specs.declared.datagram.Content.{Content}
 use Rattle.pg_packet_write.specs.declared.datagram.Content.TheVariants as content
@@ -23,11 +24,13 @@ packet_kinds = packet.Message kind.Cell ∷ packet.Message kind.Ack ∷ packet.M
     ∷ packet.Message kind.Want ∷ packet.Message kind.Delta ∷ packet.Message kind.Piece
     ∷ packet.Message kind.Later ∷ packet.Message kind.Fetch ∷ packet.Message kind.Grant
     ∷ packet.Message kind.NoGrant ∷ packet.Message kind.Full ∷ packet.Message kind.Seek
-    ∷ packet.Message kind.Here ∷ packet.Message kind.NoneHere ∷ packet.Message kind.Gone
-    ∷ packet.Message kind.Bye ∷ packet.Message kind.ByeOk ∷ packet.Message kind.Confirm
+    ∷ packet.Message (kind.Greet greeting.Here) ∷ packet.Message kind.NoneHere
+    ∷ packet.Message kind.Gone ∷ packet.Message kind.Bye ∷ packet.Message kind.ByeOk
+    ∷ packet.Message kind.Confirm
     ∷ packet.Message kind.PlaceIs ∷ packet.Message kind.Tell ∷ packet.Message kind.TellOk
     ∷ packet.Message kind.Leave ∷ packet.Message kind.LeaveOk ∷ packet.Message kind.Invite
-    ∷ packet.Message kind.Walk ∷ packet.Message kind.Meet ∷ packet.Call ∷ packet.Reply ∷ []
+    ∷ packet.Message kind.Walk ∷ packet.Message (kind.Greet greeting.Meet) ∷ packet.Call
+    ∷ packet.Reply ∷ []
 
 -- this byte, else a fault at the place
 abbrev pub byte_of : ℕ → ℕ → ℕ → Result ℕ PacketError

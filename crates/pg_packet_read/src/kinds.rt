@@ -1,6 +1,6 @@
 //! The kinds of packets.
 
-use pg_msg::MessageKind;
+use pg_msg::{Greeting, MessageKind};
 
 /// What a packet is for, without what it says.
 #[derive(Clone, Copy, Debug, PartialEq, Eq)]
@@ -24,7 +24,7 @@ pub const PACKET_KINDS: [PacketKind; 28] = [
     PacketKind::Message(MessageKind::NoGrant),
     PacketKind::Message(MessageKind::Full),
     PacketKind::Message(MessageKind::Seek),
-    PacketKind::Message(MessageKind::Here),
+    PacketKind::Message(MessageKind::Greet(Greeting::Here)),
     PacketKind::Message(MessageKind::NoneHere),
     PacketKind::Message(MessageKind::Gone),
     PacketKind::Message(MessageKind::Bye),
@@ -37,7 +37,7 @@ pub const PACKET_KINDS: [PacketKind; 28] = [
     PacketKind::Message(MessageKind::LeaveOk),
     PacketKind::Message(MessageKind::Invite),
     PacketKind::Message(MessageKind::Walk),
-    PacketKind::Message(MessageKind::Meet),
+    PacketKind::Message(MessageKind::Greet(Greeting::Meet)),
     PacketKind::Call,
     PacketKind::Reply,
 ];

@@ -84,9 +84,9 @@ pub fn read_message(
             let (file, birth) = read_replica(reader)?;
             Ok(Message::Seek { file, birth })
         }
-        MessageKind::Here => {
+        MessageKind::Greet(greeting) => {
             let ends = read_ends(reader)?;
-            Ok(Message::Here { ends })
+            Ok(Message::Greet { ends, greeting })
         }
         MessageKind::NoneHere => {
             let ask = read_ask(reader)?;
@@ -149,10 +149,6 @@ pub fn read_message(
                 hops,
                 word,
             })
-        }
-        MessageKind::Meet => {
-            let ends = read_ends(reader)?;
-            Ok(Message::Meet { ends })
         }
     }
 }

@@ -9,10 +9,16 @@ use Rattle.pg_msg.specs.declared.message.Delta.{Delta}
 use Rattle.pg_msg.specs.declared.message.Granted.{Granted}
 use Rattle.pg_msg.specs.declared.message.Piece.{Piece}
 use Rattle.pg_msg.specs.declared.message.Wanted.{Wanted}
+use Rattle.pg_msg.specs.declared.summary.Greeting.{Greeting}
+use Rattle.pg_msg.specs.declared.summary.Greeting.TheVariants as greeting
 use Rattle.pg_words.specs.FileWord.{IsDirectory}
 use Rattle.pg_words.specs.PlaceWords.{IsPlace}
 use Rattle.pg_packet_write.specs.Fields.{ask_bytes, cell_bytes, counted, ends_bytes, entry_bytes, golds_bytes, head_bytes, key_bytes, place_bytes, policy_bytes, ranges_bytes, stamps_bytes}
 use Rattle.pg_packet_write.specs.Fits.{FitGolds, FitStamps, FitsCell, FitsEntry, FitsHead, FitsKey, FitsRanges, IsServer}
+
+abbrev pub greeting_code : Greeting → ℕ
+greeting_code greeting.Here = 13
+greeting_code greeting.Meet = 26
 
 -- the kinds of messages by number
 abbrev pub code_of : Message → ℕ
@@ -28,7 +34,7 @@ code_of (message.Grant ends granted) = 9
 code_of (message.NoGrant file birth) = 10
 code_of (message.Full ends) = 11
 code_of (message.Seek file birth) = 12
-code_of (message.Here ends) = 13
+code_of (message.Greet ends why) = greeting_code why
 code_of (message.NoneHere ask file child) = 14
 code_of (message.Gone file birth) = 15
 code_of (message.Bye ends) = 16
@@ -41,7 +47,6 @@ code_of (message.Leave ends stamp) = 22
 code_of (message.LeaveOk ends stamp) = 23
 code_of (message.Invite ends) = 24
 code_of (message.Walk ends origin birth hops word) = 25
-code_of (message.Meet ends) = 26
 
 unfoldable pub wanted_bytes : Wanted → List ℕ
 wanted_bytes w = stamp_bytes w.stamp ++ (number_bytes 4 w.offset ++ stamps_bytes w.heads)
@@ -85,7 +90,7 @@ message_bytes (message.Grant ends granted) = ends_bytes ends ++ granted_bytes gr
 message_bytes (message.NoGrant file birth) = replica_bytes file birth
 message_bytes (message.Full ends) = ends_bytes ends
 message_bytes (message.Seek file birth) = replica_bytes file birth
-message_bytes (message.Here ends) = ends_bytes ends
+message_bytes (message.Greet ends why) = ends_bytes ends
 message_bytes (message.NoneHere ask file child) =
     ask_bytes ask ++ (file_bytes file ++ file_bytes child)
 message_bytes (message.Gone file birth) = replica_bytes file birth
@@ -101,7 +106,6 @@ message_bytes (message.LeaveOk ends stamp) = ends_bytes ends ++ stamp_bytes stam
 message_bytes (message.Invite ends) = ends_bytes ends
 message_bytes (message.Walk ends origin birth hops word) =
     ends_bytes ends ++ walk_bytes origin birth hops word
-message_bytes (message.Meet ends) = ends_bytes ends
 
 pub record FitsDelta (d : Delta) : Type 0 where
   pub head : FitsHead d.head
@@ -141,7 +145,7 @@ FitsMessage (message.Grant ends granted) = FitsGranted granted
 FitsMessage (message.NoGrant file birth) = Unit {0}
 FitsMessage (message.Full ends) = Unit {0}
 FitsMessage (message.Seek file birth) = Unit {0}
-FitsMessage (message.Here ends) = Unit {0}
+FitsMessage (message.Greet ends why) = Unit {0}
 FitsMessage (message.NoneHere ask file child) = Unit {0}
 FitsMessage (message.Gone file birth) = Unit {0}
 FitsMessage (message.Bye ends) = Unit {0}
@@ -154,4 +158,3 @@ FitsMessage (message.Leave ends stamp) = Unit {0}
 FitsMessage (message.LeaveOk ends stamp) = Unit {0}
 FitsMessage (message.Invite ends) = Unit {0}
 FitsMessage (message.Walk ends origin birth hops word) = FitsWalk origin hops
-FitsMessage (message.Meet ends) = Unit {0}

@@ -4,7 +4,7 @@ ghost use Rattle.std.specs.Prelude.{◌≡◌, ◌++◌, OnOk};
 ghost use Rattle.pg_codec.specs.Spelling.{stamp_bytes};
 ghost use Rattle.pg_packet_write.specs.Fields.{ends_bytes};
 ghost use Rattle.pg_packet_write.specs.Fits.{FitStamps, FitsEntry};
-ghost use Rattle.pg_packet_write.specs.Messages.{FitsDelta, FitsGranted, FitsMessage, FitsPiece, code_of, delta_bytes, granted_bytes, message_bytes, piece_bytes, replica_bytes, told_bytes, walk_bytes, wanted_bytes};
+ghost use Rattle.pg_packet_write.specs.Messages.{FitsDelta, FitsGranted, FitsMessage, FitsPiece, code_of, delta_bytes, greeting_code, granted_bytes, message_bytes, piece_bytes, replica_bytes, told_bytes, walk_bytes, wanted_bytes};
 
 use crate::fields::{
     write_ask, write_block, write_cell, write_ends, write_entry, write_golds, write_head,
@@ -13,8 +13,17 @@ use crate::fields::{
 use pg_base::{Bytes, FileId, NodeId, Stamp};
 use pg_codec::{write_file, write_stamp, write_u8, write_u32, write_u64};
 use pg_entries::Entry;
-use pg_msg::{Delta, Ends, Granted, Message, Piece, Wanted};
+use pg_msg::{Delta, Ends, Granted, Greeting, Message, Piece, Wanted};
 use std::alloc::AllocError;
+
+fn greeting_code(greeting: Greeting) -> u8
+    ensures { result ≡ greeting_code greeting }
+{
+    match greeting {
+        Greeting::Here => 13,
+        Greeting::Meet => 26,
+    }
+}
 
 /// The number of the kind of message.
 pub fn code_of(message: &Message) -> u8
@@ -33,7 +42,7 @@ pub fn code_of(message: &Message) -> u8
         Message::NoGrant { .. } => 10,
         Message::Full { .. } => 11,
         Message::Seek { .. } => 12,
-        Message::Here { .. } => 13,
+        Message::Greet { greeting, .. } => greeting_code(*greeting),
         Message::NoneHere { .. } => 14,
         Message::Gone { .. } => 15,
         Message::Bye { .. } => 16,
@@ -46,7 +55,6 @@ pub fn code_of(message: &Message) -> u8
         Message::LeaveOk { .. } => 23,
         Message::Invite { .. } => 24,
         Message::Walk { .. } => 25,
-        Message::Meet { .. } => 26,
     }
 }
 
@@ -174,7 +182,7 @@ pub fn write_message(message: &Message, out: &mut Bytes) -> Result<(), AllocErro
         Message::NoGrant { file, birth } => write_replica(*file, *birth, out),
         Message::Full { ends } => write_ends(ends, out),
         Message::Seek { file, birth } => write_replica(*file, *birth, out),
-        Message::Here { ends } => write_ends(ends, out),
+        Message::Greet { ends, .. } => write_ends(ends, out),
         Message::NoneHere { ask, file, child } => {
             write_ask(*ask, out)?;
             write_file(*file, out)?;
@@ -204,6 +212,5 @@ pub fn write_message(message: &Message, out: &mut Bytes) -> Result<(), AllocErro
             write_ends(ends, out)?;
             write_walk(*origin, *birth, *hops, *word, out)
         }
-        Message::Meet { ends } => write_ends(ends, out),
     }
 }

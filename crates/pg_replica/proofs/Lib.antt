@@ -10,7 +10,6 @@ pub mod Merging
 mod Relisting
 mod Putting
 pub mod Ends
-mod FewEdges
 mod Takings
 mod Refusals
 mod InOrder

@@ -1,6 +1,6 @@
--- Which replicas a server need not look at: those whose peers have acknowledged every key, those
--- that know no number at its end, and those that have many edges or none.
-use Rattle.std.specs.Prelude.{ℕ, ◌≡◌, ◌&&◌, if◌then◌else◌, All, Bool, true, false, nat_lt, List, length, None, Some}
+-- Which replicas a server need not look at: those whose peers have acknowledged every key, and
+-- those that know no number at its end.
+use Rattle.std.specs.Prelude.{◌≡◌, if◌then◌else◌, All, Bool, true, false, nat_lt, List, length, None, Some}
 use Rattle.std.specs.List.{list_any}
 use Rattle.std.specs.Ordering.{eq_by_cmp}
 use Rattle.std.specs.BTreeMap.{insert_entry, is_at}
@@ -74,23 +74,3 @@ knows_end x = list_any (λ v. has_end v.head.vector) x.content.heads
 abbrev pub with_end : Files → FileId → VersionValue → Files
 with_end listed file v =
     if has_end v.head.vector then insert_entry file_cmp listed file tt else listed
-
--- ---- few edges
-
--- some edges, but fewer than three
-abbrev pub is_few : ℕ → Bool
-is_few count = nat_lt 0 count && nat_lt count 3
-
--- none, or more
-abbrev pub HasNotFew : Replica → Type 0
-HasNotFew x = is_few (length x.edges) ≡ false
-
--- every replica that has few edges is among the files that are listed
-abbrev pub ListsFew : Files → ByFile → Type 0
-ListsFew listed replicas = IsIndexBy HasNotFew listed replicas
-
--- the replica of a file changed, and with it which files are listed: where it is said of the new
--- list that all with few edges are there, it was said of the one before
-abbrev pub RelistsFew : Bool → Files → Bool → Files → FileId → Replica → Replica → Type 0
-RelistsFew was listed is new file x y =
-    is ≡ true → (was ≡ true) × Relists HasNotFew listed new file x y

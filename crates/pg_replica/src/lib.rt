@@ -5,8 +5,7 @@
 //! the keys of replaced heads off the edges; `root` makes the replica of the root that each server
 //! begins with. `replicas` has `Replicas`, by file; `listing` and `numbers` keep, for each change,
 //! two lists beside it: the files with unacknowledged keys, and those that know a number at its
-//! end; `few` keeps a third, the files whose replica has one edge or two, wherever their number
-//! changes.
+//! end.
 //!
 //! Beside them stands an exact index of what peers have not acknowledged (`pg_unacked`): the keys
 //! that are due to each peer, by file and then by key. A change of edges alone comes from there
@@ -17,11 +16,10 @@
 //! and who is told what stands above.
 //!
 //! What holds (the invariant of `Replicas`): every replica with an unacknowledged key, or with a
-//! number at its end, is listed, also after memory ran out; so is every one with few edges, unless
-//! memory ran out for that list when an edge went, which is told from then on; and just the keys on
-//! the edges of the replicas are due, each to the peer of its edge. Where memory runs out in the
-//! middle of a change the replica loses its edges, and so its dues. The laws (`laws`): of versions
-//! no key stands on an edge but a head's.
+//! number at its end, is listed, also after memory ran out; and just the keys on the edges of the
+//! replicas are due, each to the peer of its edge. Where memory runs out in the middle of a change
+//! the replica loses its edges, and so its dues. The laws (`laws`): of versions no key stands on an
+//! edge but a head's.
 //!
 //! The definitions: `specs/Replica`, `Replicas`, `Root`, `Index` (what lists promise), `Unacked`
 //! (what is due to peers), `InOrder` (a hash map seen in order), `Laws`. The rules: docs/RULES.md,
@@ -29,11 +27,10 @@
 //!
 //! A change more: of edges in `pg_unacked`, or of more than edges in `changes`, with a clause that
 //! says which keys are due then; then in `listing`, which says how both lists went; then on
-//! `Replicas`, where `few` is told the number of edges before and behind it.
+//! `Replicas`.
 #![tactic(auto)]
 
 mod changes;
-mod few;
 mod laws;
 mod link;
 mod listing;

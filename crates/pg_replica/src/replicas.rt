@@ -1,6 +1,6 @@
 //! The replicas of a server, by file.
 
-ghost use Rattle.std.specs.Prelude.{◌≡◌, ◌≢◌, ◌≤◌, ◌+◌, ◌^◌, [], true, if◌then◌else◌, is_some, length, map, IfErr, IfOk, IfSome, None, OnErr, OnOk, Some, option_copied};
+ghost use Rattle.std.specs.Prelude.{◌≡◌, ◌≢◌, ◌≤◌, ◌+◌, ◌^◌, [], true, if◌then◌else◌, is_some, length, map, IfErr, IfOk, None, OnErr, OnOk, Some, option_copied};
 ghost use Rattle.std.specs.List.Sorted.{IsStrictlySortedBy};
 ghost use Rattle.std.specs.Map.{keys_of};
 ghost use Rattle.pg_base.specs.Id.{file_cmp};
@@ -8,13 +8,12 @@ ghost use Rattle.pg_base.specs.Version.{stamp_of};
 ghost use Rattle.pg_edges.specs.Edges.{are_clean};
 ghost use Rattle.pg_replica.specs.Replica.{has_room, refusal_of};
 ghost use Rattle.pg_replica.specs.Replicas.{edge_count, have_own_end, is_own_end_in, lists_peer, or_nothing, put_replica, replica_in, replicas_acked, replicas_keeping, replicas_linked, replicas_taking, replicas_touched, replicas_unlinked, replicas_writing, takes_link, takes_version, without_replica};
-ghost use Rattle.pg_replica.specs.Index.{IsIndex, ListsFew};
+ghost use Rattle.pg_replica.specs.Index.{IsIndex};
 ghost use Rattle.pg_unacked.specs.Changes.{Redues};
 ghost use Rattle.pg_replica.specs.Unacked.{unacked};
 ghost use Rattle.pg_replica.specs.InOrder.{in_order};
 
 use crate::changes::replace;
-use crate::few::{Few, list_few};
 use crate::link::Link;
 use crate::listing::{
     Lists, acknowledge_listed, link_listed, list_replica, take_listed, touch_listed, unlink_listed,
@@ -34,13 +33,11 @@ use std::marker::Model;
 
 /// Replicas by file. The lists have every file that they are to have, and no other but where memory
 /// ran out or where a number at its end went. What is due to peers is just what the edges have.
-/// Those with few edges are listed too, and no others but where one came in the place of another.
 #[derive(Debug, Drop)]
 pub struct Replicas {
     alloc: Global,
     by_file: HashMap<FileId, Replica>,
     lists: Lists,
-    few: Few,
 }
 
 impl Model for Replicas {
@@ -88,7 +85,6 @@ impl Replicas {
             alloc,
             by_file: HashMap::new(alloc),
             lists: Lists::new(alloc),
-            few: Few::new(alloc),
         }
     }
 
@@ -128,19 +124,6 @@ impl Replicas {
         self.lists.unacked.get(peer)
     }
 
-    /// The files whose replica has one edge or two, to go through them by file: no replica of
-    /// another file has so many. Where memory ran out when an edge went, it is not known which
-    /// these are.
-    pub fn with_few_edges(&self) -> Option<&BTreeMap<FileId, ()>>
-        ensures { IfSome result (λ files. ListsFew files.now.entries self.now) }
-    {
-        if self.few.is_whole {
-            Some(&self.few.files)
-        } else {
-            None
-        }
-    }
-
     /// Whether some replica knows a number of 2^62 or more of one of the server's actors. The files
     /// that may are listed, so that nothing is gone over where there is no such number.
     pub fn have_own_end(&self, server: NodeId) -> bool
@@ -171,7 +154,6 @@ impl Replicas {
         ensures ok { OnOk result (self.new ≡ put_replica self.old file replica) }
         ensures err { OnErr result (self.new ≡ self.old) }
     {
-        list_few(&mut self.few.files, file, &replica)?;
         self.by_file.insert(file, replica)?;
         self.lists.unacked.forget(&file);
         Ok(())
@@ -184,7 +166,6 @@ impl Replicas {
         ensures err { OnErr result (self.new ≡ self.old) }
     {
         list_replica(&mut self.lists, file, &replica)?;
-        list_few(&mut self.few.files, file, &replica)?;
         let Some(held) = self.by_file.get_mut(&file) else {
             return put_first(&mut self.by_file, &mut self.lists.unacked, file, replica);
         };
@@ -198,7 +179,6 @@ impl Replicas {
     {
         self.lists.unacknowledged.remove(file);
         self.lists.ended.remove(file);
-        self.few.files.remove(file);
         self.lists.unacked.forget(file);
         self.by_file.remove(file)
     }
@@ -228,10 +208,7 @@ impl Replicas {
         let Some(replica) = self.by_file.get_mut(&file) else {
             return Ok(false);
         };
-        let before = replica.edges.len();
-        let made = link_listed(replica, &mut self.lists, file, peer, birth, keys, tags);
-        self.few.update(file, before, replica.edges.len());
-        made
+        link_listed(replica, &mut self.lists, file, peer, birth, keys, tags)
     }
 
     /// The edge of the replica of a file to a peer goes, where it is listed with this birth.
@@ -244,9 +221,7 @@ impl Replicas {
         let Some(replica) = self.by_file.get_mut(&file) else {
             return;
         };
-        let before = replica.edges.len();
         unlink_listed(replica, &mut self.lists, file, peer, birth);
-        self.few.update(file, before, replica.edges.len());
     }
 
     /// Touches a key of the replica of a file on every edge. `tags` is the next tag to give. After
@@ -261,10 +236,7 @@ impl Replicas {
         let Some(replica) = self.by_file.get_mut(&file) else {
             return Ok(());
         };
-        let before = replica.edges.len();
-        let touched = touch_listed(replica, &mut self.lists, file, key, tags);
-        self.few.update(file, before, replica.edges.len());
-        touched
+        touch_listed(replica, &mut self.lists, file, key, tags)
     }
 
     /// Takes a version, and tells whether it is a head from then on: where there is a replica of
@@ -291,10 +263,7 @@ impl Replicas {
         let Some(replica) = self.by_file.get_mut(&file) else {
             return Ok(false);
         };
-        let before = replica.edges.len();
-        let news = take_listed(replica, &mut self.lists, file, version, tags);
-        self.few.update(file, before, replica.edges.len());
-        news
+        take_listed(replica, &mut self.lists, file, version, tags)
     }
 
     /// Makes a version of what the ranges make of what is shown of a file that has a replica, and
@@ -328,8 +297,7 @@ impl Replicas {
         let Some(replica) = self.by_file.get_mut(&file) else {
             unreachable!();
         };
-        let before = replica.edges.len();
-        let bases = write_listed(
+        write_listed(
             replica,
             &mut self.lists,
             self.alloc,
@@ -337,9 +305,7 @@ impl Replicas {
             stamp,
             ranges,
             tags,
-        );
-        self.few.update(file, before, replica.edges.len());
-        bases
+        )
     }
 
     /// The replica of a file keeps one more delta, if there is one. After out of memory all is as
@@ -363,8 +329,6 @@ impl Replicas {
         let Some(replica) = self.by_file.get_mut(&file) else {
             return;
         };
-        let before = replica.edges.len();
         acknowledge_listed(replica, &mut self.lists, file, link, key, tag);
-        self.few.update(file, before, replica.edges.len());
     }
 }

@@ -168,7 +168,7 @@ module _ (a : Store) (from : ℕ) where
   receive_has (message.Grant ends granted) = none_last (message.Grant ends granted) (grant a ends granted Fresh).work (grant_same a ends granted Fresh)
   receive_has (message.Full ends) = none_last (message.Full ends) (full a ends Fresh).work (full_same a ends Fresh)
   receive_has (message.Seek file birth) = none_last (message.Seek file birth) (seek a file birth Fresh).work (seek_same a file birth Fresh)
-  receive_has (message.Here ends) = none_last (message.Here ends) (accept a ends manner.Makes Fresh).work (accept_same a ends manner.Makes Fresh)
+  receive_has (message.Greet ends why) = none_last (message.Greet ends why) (accept a ends manner.Makes Fresh).work (accept_same a ends manner.Makes Fresh)
   receive_has (message.Confirm dir e) = none_last (message.Confirm dir e) (confirm a dir e Fresh).work (confirm_same a dir e Fresh)
   receive_has (message.PlaceIs dir e) = none_last (message.PlaceIs dir e) (place_is a dir e Fresh).work (place_is_same a dir e Fresh)
   receive_has (message.Tell dir e) = none_last (message.Tell dir e) (tell a dir e Fresh).work (tell_same a dir e Fresh)
@@ -176,7 +176,6 @@ module _ (a : Store) (from : ℕ) where
   receive_has (message.LeaveOk ends stamp) = none_last (message.LeaveOk ends stamp) (leave_ok a ends stamp Fresh).work (leave_ok_same a ends stamp Fresh)
   receive_has (message.Invite ends) = none_last (message.Invite ends) (invite a ends Fresh).work (invite_same a ends Fresh)
   receive_has (message.Walk ends origin birth hops word) = walk_has a from ends origin birth hops word
-  receive_has (message.Meet ends) = none_last (message.Meet ends) (accept a ends manner.Makes Fresh).work (accept_same a ends manner.Makes Fresh)
   receive_has (message.Harbinger ends tag head) =
       none_last (message.Harbinger ends tag head) (harbinger a ends tag head Fresh).work (harbinger_same ends Fresh a tag head)
   receive_has (message.Want ends wanted) = none_last (message.Want ends wanted) (want a ends wanted Fresh).work (want_same ends Fresh a wanted)

@@ -21,6 +21,7 @@ use Rattle.pg_msg.specs.declared.message.Granted.{Granted}
 use Rattle.pg_msg.specs.declared.message.Message.{Message}
 use Rattle.pg_msg.specs.declared.message.Message.TheVariants as message
 use Rattle.pg_msg.specs.declared.message.Sent.{Sent}
+use Rattle.pg_msg.specs.declared.summary.Greeting.TheVariants as greeting
 use Rattle.pg_msg.specs.declared.update.Update.TheVariants as update
 use Rattle.pg_msg.specs.declared.work.Work.{Work}
 use Rattle.pg_msg.specs.Ends.{back}
@@ -65,12 +66,11 @@ is_plain (message.Fetch file birth) = true
 is_plain (message.Grant ends granted) = true
 is_plain (message.NoGrant file birth) = true
 is_plain (message.Full ends) = true
-is_plain (message.Here ends) = true
+is_plain (message.Greet ends why) = true
 is_plain (message.NoneHere what file child) = true
 is_plain (message.Gone file birth) = true
 is_plain (message.Invite ends) = true
 is_plain (message.Walk ends origin birth hops word) = true
-is_plain (message.Meet ends) = true
 is_plain (message.Later ends stamp) = true
 is_plain _ = false
 
@@ -256,7 +256,7 @@ module _ (Q : Sent → Type 0) (plain : (m : Sent) → is_plain m.packet.message
       let l = link_peer a f work.from birth work in
       chosen P (is_held a f) _ _
       (chosen P (knows_later a f work.from birth) (idle a work) (answered_seek f birth l) k
-      (posted_plain l.store l.work.from (message.Here (ends_to l.store f birth)) l.work refl (linked_fine a f work.from birth work k)))
+      (posted_plain l.store l.work.from (message.Greet (ends_to l.store f birth) greeting.Here) l.work refl (linked_fine a f work.from birth work k)))
       (posted_plain a work.from (message.NoneHere ask.Seek f f) work refl k)
 
   along_fine : (a : Store) (f : FileId) (origin birth hops word : ℕ) (work : Work) (o : Option Edge) → Fine work
@@ -285,7 +285,7 @@ module _ (Q : Sent → Type 0) (plain : (m : Sent) → is_plain m.packet.message
       let l = link_peer a ends.file origin birth work in
       chosen (λ (d : Done). Fine d.work) (goes_on hops edges) (idle a (walk_on a ends.file origin birth hops word edges work)) (meet_origin a ends.file origin birth work)
       (along_fine a ends.file origin birth (hops - 1) (word / length edges) work (slice_get edges (word % length edges)) k)
-      (posted_plain l.store origin (message.Meet (ends_to l.store ends.file birth)) l.work refl (linked_fine a ends.file origin birth work k))
+      (posted_plain l.store origin (message.Greet (ends_to l.store ends.file birth) greeting.Meet) l.work refl (linked_fine a ends.file origin birth work k))
 
   pub walk_fine : (a : Store) (ends : Ends) (origin birth hops word : ℕ) (work : Work) → Fine work → Fine (walk a ends origin birth hops word work).work
   walk_fine a ends origin birth hops word work k =
@@ -332,7 +332,7 @@ module _ (Q : Sent → Type 0) (plain : (m : Sent) → is_plain m.packet.message
   received_fine a (message.Grant ends g) work has k = grant_fine a ends g work k
   received_fine a (message.Full ends) work has k = full_fine a ends work k
   received_fine a (message.Seek f birth) work has k = seek_fine a f birth work k
-  received_fine a (message.Here ends) work has k = accept_fine a ends manner.Makes work k
+  received_fine a (message.Greet ends why) work has k = accept_fine a ends manner.Makes work k
   received_fine a (message.Confirm dir e) work has k = confirm_fine a dir e work has k
   received_fine a (message.PlaceIs dir e) work has k = place_is_fine a dir e work k
   received_fine a (message.Tell dir e) work has k = tell_fine a dir e work has k
@@ -340,7 +340,6 @@ module _ (Q : Sent → Type 0) (plain : (m : Sent) → is_plain m.packet.message
   received_fine a (message.LeaveOk ends stamp) work has k = leave_ok_fits Q from a ends stamp work k
   received_fine a (message.Invite ends) work has k = invite_fine a ends work k
   received_fine a (message.Walk ends origin birth hops word) work has k = walk_fine a ends origin birth hops word work k
-  received_fine a (message.Meet ends) work has k = accept_fine a ends manner.Makes work k
   received_fine a (message.Harbinger ends tag head) work has k =
       harbinger_fits Q from puts_off a ends work k tag head has (accept_fine a ends manner.Makes work k)
   received_fine a (message.Want ends wanted) work has k = want_fits Q from puts_off a ends work k wanted has (accept_fine a ends manner.Needs work k)

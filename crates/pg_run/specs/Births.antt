@@ -68,7 +68,7 @@ AllNamed P from to (message.Grant ends granted) = ends_named P from to ends
 AllNamed P from to (message.NoGrant file birth) = P file to birth
 AllNamed P from to (message.Full ends) = ends_named P from to ends
 AllNamed P from to (message.Seek file birth) = P file from birth
-AllNamed P from to (message.Here ends) = ends_named P from to ends
+AllNamed P from to (message.Greet ends why) = ends_named P from to ends
 AllNamed P from to (message.NoneHere ask file child) = Unit {0}
 AllNamed P from to (message.Gone file birth) = P file from birth
 AllNamed P from to (message.Bye ends) = ends_named P from to ends
@@ -82,7 +82,6 @@ AllNamed P from to (message.LeaveOk ends stamp) = ends_named P from to ends
 AllNamed P from to (message.Invite ends) = ends_named P from to ends
 AllNamed P from to (message.Walk ends origin birth hops word) =
     ends_named P from to ends × P ends.file origin birth
-AllNamed P from to (message.Meet ends) = ends_named P from to ends
 
 -- every birth that an edge, a flag or a message ever sent names was given out by its server for
 -- that thing, and so was the birth of each version's maker
@@ -186,8 +185,7 @@ abbrev pub linking : Message → Option Ends
 linking (message.Cell ends tag c) = if fits ends.file c then Some ends else None
 linking (message.Harbinger ends tag head) = if is_dir ends.file then None else Some ends
 linking (message.Grant ends granted) = Some ends
-linking (message.Here ends) = Some ends
-linking (message.Meet ends) = Some ends
+linking (message.Greet ends why) = Some ends
 linking (message.Leave ends stamp) = Some ends
 linking _ = None
 

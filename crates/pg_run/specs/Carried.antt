@@ -133,7 +133,7 @@ carried store wants from (message.Grant ends granted) = grant_carried store ends
 carried store wants from (message.NoGrant file birth) = []
 carried store wants from (message.Full ends) = []
 carried store wants from (message.Seek file birth) = []
-carried store wants from (message.Here ends) = []
+carried store wants from (message.Greet ends why) = []
 carried store wants from (message.NoneHere ask file child) = []
 carried store wants from (message.Gone file birth) = []
 carried store wants from (message.Bye ends) = []
@@ -146,7 +146,6 @@ carried store wants from (message.Leave ends stamp) = []
 carried store wants from (message.LeaveOk ends stamp) = []
 carried store wants from (message.Invite ends) = []
 carried store wants from (message.Walk ends origin birth hops word) = []
-carried store wants from (message.Meet ends) = []
 
 -- ---- any input
 

@@ -94,7 +94,7 @@ receive store (message.Grant ends granted) work = grant store ends granted work
 receive store (message.NoGrant file birth) work = no_grant store file birth work
 receive store (message.Full ends) work = full store ends work
 receive store (message.Seek file birth) work = seek store file birth work
-receive store (message.Here ends) work = here store ends work
+receive store (message.Greet ends why) work = here store ends work
 receive store (message.NoneHere ask file child) work = none_here store ask file child work
 receive store (message.Gone file birth) work = gone store file birth work
 receive store (message.Bye ends) work = bye store ends work
@@ -108,7 +108,6 @@ receive store (message.LeaveOk ends stamp) work = leave_ok store ends stamp work
 receive store (message.Invite ends) work = invite store ends work
 receive store (message.Walk ends origin birth hops word) work =
     walk store ends origin birth hops word work
-receive store (message.Meet ends) work = here store ends work
 
 -- ---- the first effect of an input, before the house rules
 

@@ -206,7 +206,7 @@ fn receive(store: &mut Store, message: Message, work: &mut Work) -> Result<(), A
         }
         Message::Full { ends } => full(store, ends, work),
         Message::Seek { file, birth } => seek(store, file, birth, work),
-        Message::Here { ends } => here(store, ends, work),
+        Message::Greet { ends, .. } => here(store, ends, work),
         Message::NoneHere { ask, file, child } => {
             none_here(store, ask, file, child, work);
             Ok(())
@@ -237,6 +237,5 @@ fn receive(store: &mut Store, message: Message, work: &mut Work) -> Result<(), A
             hops,
             word,
         } => walk(store, ends, origin, birth, hops, word, work),
-        Message::Meet { ends } => here(store, ends, work),
     }
 }

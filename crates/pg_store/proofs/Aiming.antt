@@ -1,6 +1,6 @@
 -- What is said of births stays so where an intention or a wish asks another server, and where
 -- wishes end.
-use Rattle.std.proofs.Common.{ℕ, ◌≡◌, ◌≤◌, arith, Bool, true, false, cond, not, List, [], Option, None, Some, refl, sym, ap, subst, ◌∙◌}
+use Rattle.std.proofs.Common.{ℕ, ◌≡◌, ◌≤◌, arith, Bool, true, false, cond, not, [], Option, None, Some, refl, sym, ap, subst, ◌∙◌}
 use Rattle.std.specs.Cmp.{eq_by_cmp_equiv}
 use Rattle.std.specs.Option.{IsSome, option_map}
 use Rattle.std.specs.BTreeMap.{is_at}
@@ -18,7 +18,6 @@ use Rattle.pg_intent.specs.Intents.{aimed}
 use Rattle.pg_intent.proofs.Found.{aimed_found}
 use Rattle.pg_store.specs.declared.store.Store.{Store}
 use Rattle.pg_store.specs.declared.wishes.Wish.{Wish}
-use Rattle.pg_store.specs.Store.{is_held}
 use Rattle.pg_store.specs.Births.{fill_at, wish_at, with_wishes}
 use Rattle.pg_store.specs.Wishes as wishes
 use Rattle.pg_store.specs.Wishes.{WishesValue, aim_wish, wish_in, without_wish}

@@ -1,5 +1,5 @@
 -- A number of an own flag at the clock's end is one of a thing that is not calm.
-use Rattle.std.proofs.Common.{◌≡◌, ℕ, ◌<◌, Bool, true, false, ◌||◌, cond, List, [], ◌∷◌, length, get_or, Option, None, Some, refl, sym, ap, subst, ◌∙◌, arith, inl, inr, ◌⊎◌}
+use Rattle.std.proofs.Common.{◌≡◌, ◌<◌, Bool, true, false, ◌||◌, cond, List, [], ◌∷◌, length, get_or, Option, None, Some, refl, sym, ap, ◌∙◌, arith, inl, inr, ◌⊎◌}
 use Rattle.std.specs.List.{list_any}
 use Rattle.std.specs.List.Sorted.{IsStrictlySortedBy}
 use Rattle.std.specs.Map.{keys_of, lookup, values_of}
@@ -16,7 +16,7 @@ use Rattle.pg_base.proofs.Entries.{lookup-place}
 use Rattle.pg_register.specs.Place.{root}
 use Rattle.pg_index.specs.Ids.{is_one_of}
 use Rattle.pg_names.specs.Names.{InodeValue, NamesValue, known}
-use Rattle.pg_names.specs.Calm.{AreCalm, IsCalm}
+use Rattle.pg_names.specs.Calm.{AreCalm}
 use Rattle.pg_store.specs.Store.{have_own_flag_at_end, is_end_at, is_end_of, is_own_flag_at_end}
 
 -- what is found among the entries is among the values

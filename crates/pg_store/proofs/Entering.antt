@@ -1,5 +1,5 @@
 -- A server enters a view: what is held, and the births, stay as they were.
-use Rattle.std.proofs.Common.{ℕ, ◌≡◌, ◌≤◌, ◌==◌, arith, Bool, true, false, cond, Option, None, Some, inl, List, [], ◌∷◌, refl, sym, ap, ◌∙◌}
+use Rattle.std.proofs.Common.{ℕ, ◌≡◌, ◌==◌, arith, Bool, true, false, cond, Option, None, Some, inl, List, [], ◌∷◌, refl, sym, ap, ◌∙◌}
 use Rattle.std.specs.Map.{keys_of}
 use Rattle.std.proofs.lemmas.Bool.{false≢true}
 use Rattle.pg_base.specs.declared.id.FileId.{FileId}

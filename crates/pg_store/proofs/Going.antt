@@ -6,14 +6,12 @@ use Rattle.std.proofs.lemmas.Bool.{false≢true}
 use Rattle.pg_base.specs.declared.id.FileId.{FileId}
 use Rattle.pg_base.specs.Id.{file_cmp}
 use Rattle.pg_entries.specs.declared.entry.Entry.{Entry}
-use Rattle.pg_intent.specs.declared.intent.Intent.TheVariants as intent
 use Rattle.pg_names.specs.declared.attributes.Attributes.{Attributes}
 use Rattle.pg_names.specs.Names.{InodeValue, cell_at, entry_in, known, own_at, own_of}
 use Rattle.pg_replica.specs.declared.replica.Replica.{Replica}
 use Rattle.pg_replica.proofs.Going.{replica_behind}
 use Rattle.pg_store.specs.declared.store.Store.{Store}
 use Rattle.pg_store.specs.Beginning.{let_go}
-use Rattle.pg_store.specs.Births.{fill_at}
 use Rattle.pg_store.specs.Store.{is_held, replica_at}
 use Rattle.pg_store.specs.Together.{AreBirths, AreTogether, birth_at}
 use Rattle.pg_store.proofs.Over.{known_behind}

@@ -1,6 +1,5 @@
 -- Whose flags the house rules change is among what is touched.
 use Rattle.std.proofs.Common.{ℕ, zero, suc, ◌≡◌, Bool, true, false, length, Option, None, Some, List, [], ◌∷◌, refl, sym, ap, ◌∙◌, subst, inl, inr, ◌⊎◌}
-use Rattle.std.specs.List.{list_any}
 use Rattle.std.specs.Option.{option_map}
 use Rattle.std.proofs.lemmas.Bool.{false≢true, or_left, or_right}
 use Rattle.pg_base.specs.declared.id.FileId.{FileId}
@@ -10,13 +9,14 @@ use Rattle.pg_register.specs.declared.flag.Flag.{Flag}
 use Rattle.pg_register.specs.declared.place.Place.{Place}
 use Rattle.pg_register.specs.Flag.{flag_of}
 use Rattle.pg_register.specs.Place.{root, tilde_name}
+use Rattle.pg_index.specs.Ids.{is_one_of}
 use Rattle.pg_edges.specs.declared.key.Key.TheVariants as key
 use Rattle.pg_house.specs.pg_msg.declared.update.Update.TheVariants as update
 use Rattle.pg_house.specs.pg_msg.declared.work.Touched.{Touched}
 use Rattle.pg_house.specs.pg_msg.declared.work.Work.{Work}
 use Rattle.pg_house.specs.pg_msg.Work.{with_made, with_touched}
 use Rattle.pg_names.specs.declared.attributes.Attributes.{Attributes}
-use Rattle.pg_names.specs.Names.{NamesValue, directories, own_at, with_last, with_own, or_blank, own_or_blank}
+use Rattle.pg_names.specs.Names.{NamesValue, directories, is_full, own_at, with_last, with_own, or_blank, own_or_blank}
 use Rattle.pg_names.proofs.Lookups.{known_absent, own_other, own_same, update_frame}
 use Rattle.pg_house.specs.Work.{State}
 use Rattle.pg_house.specs.Passing.{greatest, is_held_back, own_taken, pass, pass_all, pass_own}
@@ -27,13 +27,16 @@ use Rattle.pg_house.specs.House.{house, movable}
 use Rattle.pg_house.specs.Facts.{IsIn, IsTouched}
 use Rattle.pg_house.proofs.AfterPassing.{after_other, after_own}
 use Rattle.pg_house.proofs.Drawn.{pass_frame}
+use Rattle.pg_house.proofs.Fullness.{rules_full}
 use Rattle.pg_house.proofs.Telling.{in_front, left_stays, pass_tells}
 use Rattle.pg_house.proofs.Truths.{bool_cases}
 use Rattle.pg_replica.specs.declared.replica.Replica.{Replica}
 use Rattle.pg_replica.specs.Replicas.{ByFile, or_nothing, replica_in}
 use Rattle.pg_store.specs.declared.seekers.Seekers.{Seekers}
-use Rattle.pg_store.specs.Seekers.{AreMarked, is_marked, is_touched, may_seek, seeks, seeks_as}
-use Rattle.pg_store.proofs.Rising.{Rises, SomeNew, greatest_rises, new_differs}
+use Rattle.pg_store.specs.Seekers.{AreMarked, Marks, is_touched, may_seek, seeks, seeks_as}
+use Rattle.pg_store.specs.Walkers.{sends_as}
+use Rattle.pg_store.proofs.Marked.{free_fresh, marked_stale}
+use Rattle.pg_store.proofs.Rising.{SomeNew, greatest_rises, new_differs}
 
 abbrev FlagsAt : NamesValue → FileId → Option (List Flag)
 FlagsAt s q = option_map (λ (own : Attributes). own.flags) (own_at s q)
@@ -227,13 +230,20 @@ same_flags s t rs q server removed flags =
 -- all that is touched is marked, behind the rules
 pub house_marked : (moment : ℕ) (st : State) (t : NamesValue) (touched : List Touched) (rs : ByFile) (old new : Seekers)
     → t ≡ (house moment st).names → touched ≡ (house moment st).work.touched
-    → ((q : FileId) → is_marked new q ≡ false → (is_marked old q ≡ false) × (is_touched q touched ≡ false))
+    → Marks (λ q. is_touched q touched) old new
     → AreMarked st.names rs old → AreMarked t rs new
-house_marked moment st t touched rs old new names work more marked q free =
-    let both = more q free in
-    let shows = house_shows moment st in
-    ap (λ (s : NamesValue). may_seek s rs q) names
-    ∙ elim (shows.flags q) [
-      | inl same ↦ same_flags st.names (house moment st).names rs q shows.server shows.removed same ∙ marked q both.0
-      | inr done ↦ absurd (false≢true (sym both.1 ∙ ap (is_touched q) work ∙ touched_by _ q (house moment st).work.touched refl done.1))
-    ]
+house_marked moment st t touched rs old new names work more marked q = (
+  λ free. (
+      let both = more.more q free in
+      let shows = house_shows moment st in
+      ap (λ (s : NamesValue). may_seek s rs q) names
+      ∙ elim (shows.flags q) [
+        | inl same ↦ same_flags st.names (house moment st).names rs q shows.server shows.removed same ∙ (marked q).0 both.1
+        | inr done ↦ absurd (false≢true (sym both.0 ∙ ap (is_touched q) work ∙ touched_by _ q (house moment st).work.touched refl done.1))
+      ]),
+  λ fresh. (
+      let both = more.more q (marked_stale new q more.whole fresh) in
+      let full : is_full t q ≡ is_full st.names q = ap (λ (s : NamesValue). is_full s q) names ∙ rules_full moment st q in
+      ap (is_one_of q) more.walkers ∙ (marked q).1 (free_fresh old q both.1)
+      ∙ ap (λ f. sends_as q f (or_nothing (replica_in rs q))) (sym full)),
+)

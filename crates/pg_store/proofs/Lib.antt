@@ -13,6 +13,7 @@ pub mod Entering
 pub mod Entered
 pub mod Wished
 mod AtEnd
+pub mod Relisted
 pub mod Marked
 mod Rising
 pub mod Housed

@@ -1,5 +1,5 @@
 -- What is news in an entry: it tells whether the entry is news at all.
-use Rattle.std.proofs.Common.{◌≡◌, Bool, true, false, cond, not, ◌||◌, Option, None, Some, refl, sym, ap, ◌∙◌}
+use Rattle.std.proofs.Common.{◌≡◌, Bool, true, false, cond, not, ◌||◌, Option, None, Some, refl}
 use Rattle.pg_base.specs.declared.id.FileId.{FileId}
 use Rattle.pg_base.specs.Stamp.{is_before}
 use Rattle.pg_register.specs.Flag.{brings_news}
@@ -7,7 +7,6 @@ use Rattle.pg_entries.specs.declared.entry.Entry.{Entry}
 use Rattle.pg_entries.specs.Entry.{brings, entry_of}
 use Rattle.pg_names.specs.Names.{InodeValue, is_entry_new, known}
 use Rattle.pg_store.specs.declared.store.Store.{Store}
-use Rattle.pg_store.specs.declared.taking.EntryNews.{EntryNews}
 use Rattle.pg_store.specs.declared.taking.EntryNews.TheVariants as news
 use Rattle.pg_store.specs.Store.{entry_news, is_any_news, is_newer_entry, news_beside, news_in}
 

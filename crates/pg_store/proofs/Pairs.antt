@@ -7,7 +7,7 @@ use Rattle.pg_base.specs.declared.policy.Policy.{Policy}
 use Rattle.pg_base.specs.Id.{file_cmp, is_same_file}
 use Rattle.pg_base.specs.Version.{VersionValue}
 use Rattle.pg_base.proofs.Maps.{lookup-insert_entry}
-use Rattle.pg_base.proofs.Orders.{file_total, is_same_file-true, is_same_file-refl}
+use Rattle.pg_base.proofs.Orders.{file_total, is_same_file-true}
 use Rattle.pg_patch.specs.Ranges.{RangesValue}
 use Rattle.pg_edges.specs.declared.key.Key.{Key}
 use Rattle.pg_edges.specs.declared.key.Key.TheVariants as key

@@ -1,5 +1,5 @@
--- What may seek a gold replica: an index of what is held.
-use Rattle.std.specs.Prelude.{ℕ, ◌≡◌, Bool, false, ◌&&◌, ◌||◌, not, if◌then◌else◌, List, [], Option, None, Some}
+-- What may seek a gold replica, and what sends walks: indexes of what is held.
+use Rattle.std.specs.Prelude.{ℕ, ◌≡◌, Bool, false, ◌&&◌, ◌||◌, not, if◌then◌else◌, List, Option, None, Some}
 use Rattle.std.specs.List.{list_any}
 use Rattle.pg_base.specs.declared.id.FileId.{FileId}
 use Rattle.pg_base.specs.Id.{is_same_file}
@@ -14,6 +14,7 @@ use Rattle.pg_names.specs.Names.{NamesValue, own_at}
 use Rattle.pg_replica.specs.declared.replica.Replica.{Replica}
 use Rattle.pg_replica.specs.Replicas.{ByFile, or_nothing, replica_in}
 use Rattle.pg_store.specs.declared.seekers.Seekers.{Seekers}
+use Rattle.pg_store.specs.Walkers.{sends_walks}
 
 -- an edge matches a raised flag of a live server: that of its peer has the birth that it names
 abbrev pub matches : List ℕ → List Flag → Edge → Bool
@@ -43,7 +44,18 @@ is_marked seekers file = seekers.all || is_one_of file seekers.ids
 abbrev pub is_touched : FileId → List Touched → Bool
 is_touched file touched = list_any (λ (t : Touched). is_same_file t.file file) touched
 
--- ---- what is not marked does not seek
+-- it may be listed wrong: something changed since the list was made, and this may be it
+abbrev pub is_stale : Seekers → FileId → Bool
+is_stale seekers file = seekers.all || (not seekers.whole && is_one_of file seekers.ids)
+
+-- those that pass a test were marked, and what was marked stays so. The list is as before
+pub record Marks (test : FileId → Bool) (old new : Seekers) : Type 0 where
+  pub more : (q : FileId) → is_marked new q ≡ false
+      → (test q ≡ false) × (is_marked old q ≡ false)
+  pub walkers : new.walkers ≡ old.walkers
+  pub whole : new.whole ≡ false
+
+-- ---- what is not marked does not seek, and is listed just where it sends walks
 
 abbrev pub seeks_as : ℕ → List ℕ → Option Attributes → Replica → Bool
 seeks_as server removed None x = false
@@ -55,5 +67,7 @@ may_seek names replicas file = seeks_as names.server names.removed (own_at names
     (or_nothing (replica_in replicas file))
 
 abbrev pub AreMarked : NamesValue → ByFile → Seekers → Type 0
-AreMarked names replicas seekers = (file : FileId) → is_marked seekers file ≡ false
-    → may_seek names replicas file ≡ false
+AreMarked names replicas seekers = (file : FileId)
+    → (is_marked seekers file ≡ false → may_seek names replicas file ≡ false)
+    × (is_stale seekers file ≡ false
+    → is_one_of file seekers.walkers ≡ sends_walks names replicas file)

@@ -6,20 +6,23 @@
 //! `versions` take places, flags, entries and versions that come or are made; `links` makes and
 //! cuts edges; `beginning` lets replicas begin and go; `cells` reads the cell of a key; `lists`
 //! lends what stands in a directory, what lists a thing and what a peer has not acknowledged;
-//! `views` enters a view; `settling` lets the house rules run; `servers` says who is live and who is
-//! asked next; `wishes` has what clients asked for.
+//! `views` enters a view; `settling` lets the house rules run, and lends what may seek a gold
+//! replica (`seekers`) and what sends walks (`walkers`); `servers` says who is live and who is asked
+//! next; `wishes` has what clients asked for.
 //!
 //! A change here keeps names and replicas together: what is held in one is held in the other, and
 //! what is news touches its key on every edge. No message is made or sent.
 //!
 //! Kept by the type: what seeks a gold replica is marked (`seekers`), so that nobody has to look
-//! for it among all that is held. Each write of names or replicas marks its file first.
+//! for it among all that is held. Each write of names or replicas marks its file first. What sends
+//! walks is listed by the same marks: at the end of an event each marked thing is looked at anew,
+//! and from then until something is marked the list is whole.
 //!
 //! The laws (`laws`): births move one way, and a server that enters a view cuts the edges to who is
 //! removed and changes nothing else. `is_before_clock_end` tells of a number at its end.
 //!
 //! The definitions: `specs/Value`, `Store`, `Start`, `Beginning`, `Births`, `Cells`, `Links`,
-//! `Seekers`, `Servers`, `Views`, `Wishes`, `Together`. The rules: docs/RULES.md.
+//! `Seekers`, `Servers`, `Views`, `Walkers`, `Wishes`, `Together`. The rules: docs/RULES.md.
 //!
 //! A field more: it joins `Store`, its value and `new_store`; what a restart or a view does to it
 //! is said in `pg_server/specs/Local` and `specs/Views`.
@@ -38,6 +41,7 @@ mod store;
 mod taking;
 mod versions;
 mod views;
+mod walkers;
 mod wishes;
 
 pub use laws::{births_move, views_are_entered};

@@ -1,20 +1,30 @@
-//! What may seek a gold replica.
+//! What may seek a gold replica, and what sends walks.
 
-ghost use Rattle.std.specs.Prelude.{◌≡◌, false, true};
+ghost use Rattle.std.specs.Prelude.{[], ◌≡◌, OnErr, OnOk, false, true};
 ghost use Rattle.pg_base.specs.declared.id.FileId.{FileId};
 ghost use Rattle.pg_base.specs.Id.{is_same_file};
-ghost use Rattle.pg_store.specs.Seekers.{is_marked, is_touched};
+ghost use Rattle.pg_index.specs.Ids.{is_one_of};
+ghost use Rattle.pg_store.specs.Seekers.{Marks, is_stale, is_touched};
+ghost use Rattle.pg_store.specs.Walkers.{AreListed, sends_walks};
 
+use crate::walkers::{all_walkers, relist_each};
 use pg_base::FileId;
 use pg_house::msg::Touched;
 use pg_index::Ids;
-use std::alloc::Global;
+use pg_names::Names;
+use pg_replica::Replicas;
+use std::alloc::{AllocError, Global};
 
-/// The things that may seek a gold replica. `all`: anything may, be it that memory ran out.
+/// The things that may seek a gold replica, and those that send walks. What changes is marked: it
+/// may seek from then on, and may be listed wrong among those that send.
 #[derive(Debug, Drop)]
 pub(crate) struct Seekers {
+    /// Anything may, be it that memory ran out.
     pub(crate) all: bool,
     pub(crate) ids: Ids,
+    /// What sends walks. Where it is whole nothing was marked since it was made.
+    pub(crate) walkers: Ids,
+    pub(crate) whole: bool,
 }
 
 impl Seekers {
@@ -25,14 +35,16 @@ impl Seekers {
         Seekers {
             all: true,
             ids: Ids::new(alloc),
+            walkers: Ids::new(alloc),
+            whole: false,
         }
     }
 
     /// The thing may seek from now on.
     pub(crate) fn mark(&mut self, file: FileId)
-        ensures { (q : FileId) → is_marked self.new q ≡ false
-            → (is_same_file file q ≡ false) × (is_marked self.old q ≡ false) }
+        ensures { Marks (is_same_file file) self.old self.new }
     {
+        self.whole = false;
         if self.ids.insert(file).is_err() {
             self.all = true;
         }
@@ -40,11 +52,27 @@ impl Seekers {
 
     /// The things of which a key was touched may seek from now on.
     pub(crate) fn mark_each(&mut self, touched: &[Touched])
-        ensures { (q : FileId) → is_marked self.new q ≡ false
-            → (is_marked self.old q ≡ false) × (is_touched q touched.now ≡ false) }
+        ensures { Marks (λ q. is_touched q touched.now) self.old self.new }
     {
+        self.whole = false;
         for it in touched {
             self.mark(it.file);
         }
+    }
+
+    /// Of what is marked, just what sends walks is listed from now on. Where memory runs out it is
+    /// taken that anything may seek, and be listed wrong.
+    pub(crate) fn relist(&mut self, names: &Names, replicas: &Replicas) -> Result<(), AllocError>
+        requires { (q : FileId) → is_stale self.old q ≡ false
+            → is_one_of q self.old.walkers ≡ sends_walks names.now replicas.now q }
+        ensures ok { OnOk result (AreListed names.now replicas.now self.new.walkers []) }
+        ensures err { OnErr result (self.new.all ≡ true) }
+    {
+        if self.all {
+            self.walkers = all_walkers(names, replicas)?;
+            return Ok(());
+        }
+        self.all = true;
+        relist_each(names, replicas, self.ids.as_slice(), &mut self.walkers)
     }
 }

@@ -1,4 +1,4 @@
-//! The end of an event: the house rules, and what may seek a gold replica.
+//! The end of an event: the house rules, what may seek a gold replica, and what sends walks.
 
 ghost use Rattle.std.specs.Prelude.{◌≡◌, ◌≤◌, ◌+◌, ◌^◌, IfOk, IfSome, OnOk, false};
 ghost use Rattle.pg_base.specs.declared.id.FileId.{FileId};
@@ -7,8 +7,8 @@ ghost use Rattle.pg_house.specs.House.{house};
 ghost use Rattle.pg_house.specs.Work.{state_of};
 ghost use Rattle.pg_store.specs.Seekers.{may_seek};
 ghost use Rattle.pg_store.specs.Store.{with_names};
+ghost use Rattle.pg_store.specs.Walkers.{walkers_of};
 
-use crate::seekers::Seekers;
 use crate::store::Store;
 use pg_base::FileId;
 use pg_house::house;
@@ -45,16 +45,36 @@ impl Store {
         Some(&self.seekers.ids)
     }
 
-    /// No others than these may seek a gold replica. Where memory runs out it is taken that more
-    /// may.
+    /// No others than these may seek a gold replica, and what sends walks is listed. Where memory
+    /// runs out it is taken that more may, and it is not said that the list is whole.
     pub fn settle(&mut self, files: &[FileId])
         requires { (q : FileId) → is_one_of q files.now ≡ false
             → may_seek self.old.names self.old.replicas q ≡ false }
         ensures { self.new ≡ self.old }
     {
-        if let Ok(ids) = set_of(self.allocator(), files) {
-            self.seekers = Seekers { all: false, ids };
+        let Ok(ids) = set_of(self.allocator(), files) else {
+            return;
+        };
+        if self.seekers.relist(&self.names, &self.replicas).is_err() {
+            return;
         }
+        self.seekers.all = false;
+        self.seekers.ids = ids;
+        self.seekers.whole = true;
+    }
+
+    /// The full replicas other than the root's that have one edge or two, by id, where nothing
+    /// changed since they were listed. It takes no memory.
+    pub fn walkers(&self) -> Option<&[FileId]>
+        ensures { IfSome result (λ files.
+            files.now ≡ walkers_of self.now.names self.now.replicas) }
+    {
+        if self.seekers.all || !self.seekers.whole {
+            return None;
+        }
+        // It says that what is held is in order.
+        let _held = self.names.as_map();
+        Some(self.seekers.walkers.as_slice())
     }
 }
 

@@ -21,7 +21,7 @@ use std::alloc::{AllocError, Global};
 use std::marker::Model;
 
 /// What a server holds. Beside it the things that may seek a gold replica are kept: what is not
-/// among them does not.
+/// among them does not. So are those that send walks.
 #[derive(Debug, Drop)]
 pub struct Store {
     /// How many servers the run has.

@@ -3,7 +3,6 @@ use Rattle.pg_base.specs.Id.{file_cmp}
 use Rattle.pg_replica.specs.InOrder.{in_order}
 use Rattle.pg_replica.proofs.InOrder.{lookup-in_order, in_order-same, in_order-set}
 use Rattle.pg_replica.specs.Replicas.{ByFile, replica_in, replicas_acked}
-use Rattle.pg_replica.proofs.FewEdges.{few_there}
 use Rattle.pg_replica.proofs.Redues.{due_there}
 use Rattle.pg_replica.proofs.Relisting.{index_there}
 use Rattle.pg_replica.proofs.Takings.{acked_there, made_nowhere}
@@ -17,7 +16,6 @@ invariant_of-self-2 c =
     record {
       unacknowledged = index_there (in_order c.self.inside.by_file.entries) c.self.invariant.unacknowledged c.acknowledge_listed.ensures.listed file_cmp refl _ found set;
       ended = index_there (in_order c.self.inside.by_file.entries) c.self.invariant.ended c.acknowledge_listed.ensures.ended file_cmp refl _ found set;
-      few = few_there (in_order c.self.inside.by_file.entries) c.self.invariant.few (c.update.ensures c.in-Some.replica.now w (sym c.len-before.ensures.len) (sym c.len.ensures.len)) _ found set;
       due = due_there (in_order c.self.inside.by_file.entries) c.self.invariant.due _ w c.self.invariant.unacknowledged.by_file c.acknowledge_listed.ensures.due _ found set;
     }
 

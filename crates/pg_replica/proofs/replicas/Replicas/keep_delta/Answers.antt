@@ -1,4 +1,4 @@
-use Rattle.std.proofs.Common.{refl, ◌≡◌, ◌∙◌, All, ap, false, length, sym, subst}
+use Rattle.std.proofs.Common.{refl, ◌≡◌, ◌∙◌, All, ap, false, sym, subst}
 use Rattle.pg_base.specs.Id.{file_cmp}
 use Rattle.pg_edges.specs.Edges.{are_clean}
 use Rattle.pg_replica.specs.InOrder.{in_order}
@@ -9,7 +9,6 @@ use Rattle.pg_replica.specs.Replica.{has_end, with_kept}
 use Rattle.pg_content.specs.Content.{ContentValue}
 use Rattle.pg_replica.specs.Replicas.{ByFile, replica_in, replicas_keeping}
 use Rattle.pg_unacked.proofs.Redues.{redues_same}
-use Rattle.pg_replica.proofs.FewEdges.{Whole, few_same, few_there}
 use Rattle.pg_replica.proofs.Redues.{due_there}
 use Rattle.pg_replica.proofs.Relisting.{index_there, relists_same}
 use Rattle.pg_replica.proofs.Takings.{made_nowhere, made_there, ok_more}
@@ -29,8 +28,6 @@ invariant_of-self-2 c =
           (relists_same {P = IsAllClean} keys keys c.args.file x w refl (λ clean. ap are_clean c.keep.ensures.edges ∙ clean)) file_cmp refl _ found set;
       ended = index_there (in_order c.self.inside.by_file.entries) c.self.invariant.ended
           (relists_same {P = KnowsNoEnd} ends ends c.args.file x w refl (λ none. subst heads (sym c.keep.ensures.content) none)) file_cmp refl _ found set;
-      few = few_there (in_order c.self.inside.by_file.entries) c.self.invariant.few
-          (few_same c.self.inside.few.is_whole c.self.inside.few.files.entries c.args.file x w (ap length c.keep.ensures.edges)) _ found set;
       due = due_there (in_order c.self.inside.by_file.entries) c.self.invariant.due x w c.self.invariant.unacknowledged.by_file
           (redues_same c.args.file (λ p d. refl) c.keep.ensures.edges) _ found set;
     }
@@ -65,6 +62,5 @@ invariant_of-self c =
     record {
       unacknowledged = subst (IsIndex lists.unacknowledged.entries) (sym same) c.self.invariant.unacknowledged;
       ended = subst Q (sym same) c.self.invariant.ended;
-      few = subst (Whole c.self.inside.few.is_whole c.self.inside.few.files.entries) (sym same) c.self.invariant.few;
       due = subst (AreDue lists.unacked) (sym same) c.self.invariant.due;
     }

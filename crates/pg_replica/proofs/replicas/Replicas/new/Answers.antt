@@ -6,6 +6,5 @@ pub invariant_of-result : goal.invariant_of-result
 invariant_of-result c = record {
   unacknowledged = index_none _ c.new.result.entries c.new.ensures.empty;
   ended = index_none _ c.new.result.entries c.new.ensures.empty;
-  few = λ whole. index_none _ c.new.result.entries c.new.ensures.empty;
   due = due_begun _ c.new.result.entries c.new-2.ensures.unacked c.new.ensures.empty;
 }

@@ -17,17 +17,6 @@ invariant_of-self c =
     record {
       unacknowledged = index_of_more _ _ es c.list_replica.ensures.more c.self.invariant.unacknowledged;
       ended = index_of_more _ _ es c.list_replica.ensures.more_ended c.self.invariant.ended;
-      few = c.self.invariant.few;
-      due = subst (λ (u : UnackedValue). AreDue u es) (sym c.list_replica.ensures.unacked) c.self.invariant.due;
-    }
-
-pub invariant_of-self-in_err-list_few : goal.invariant_of-self-in_err-list_few
-invariant_of-self-in_err-list_few c =
-    let es = in_order c.self.inside.by_file.entries in
-    record {
-      unacknowledged = index_of_more _ _ es c.list_replica.ensures.more c.self.invariant.unacknowledged;
-      ended = index_of_more _ _ es c.list_replica.ensures.more_ended c.self.invariant.ended;
-      few = λ whole. index_of_more _ _ es c.list_few.ensures.more (c.self.invariant.few whole);
       due = subst (λ (u : UnackedValue). AreDue u es) (sym c.list_replica.ensures.unacked) c.self.invariant.due;
     }
 
@@ -43,8 +32,6 @@ invariant_of-self-in_default c =
           c.list_replica.ensures.more c.in_ok-list_replica.ensures.unacknowledged c.self.invariant.unacknowledged;
       ended = come_index _ _ es _ ds c.args.file c.args.replica r same c.put_first.ensures.ok c.put_first.ensures.err
           c.list_replica.ensures.more_ended c.in_ok-list_replica.ensures.ended c.self.invariant.ended;
-      few = λ whole. come_index _ _ es _ ds c.args.file c.args.replica r same c.put_first.ensures.ok c.put_first.ensures.err
-          c.list_few.ensures.more c.in_ok-list_few.ensures.listed (c.self.invariant.few whole);
       due = come_due es _ ds c.args.file c.args.replica r same c.put_first.ensures.ok c.put_first.ensures.err gap c.put_first.ensures.due c.put_first.ensures.none
           (subst (λ (u : UnackedValue). AreDue u es) (sym c.list_replica.ensures.unacked) c.self.invariant.due);
     }
@@ -74,9 +61,6 @@ invariant_of-self-2 c =
           file_cmp refl _ found set;
       ended = index_there es c.self.invariant.ended
           (relists_replaced _ _ c.args.file x w c.args.replica r c.replace.ensures.ok c.replace.ensures.err c.list_replica.ensures.more_ended c.in_ok-list_replica.ensures.ended)
-          file_cmp refl _ found set;
-      few = λ whole. index_there es (c.self.invariant.few whole)
-          (relists_replaced _ _ c.args.file x w c.args.replica r c.replace.ensures.ok c.replace.ensures.err c.list_few.ensures.more c.in_ok-list_few.ensures.listed)
           file_cmp refl _ found set;
       due = due_there es (subst (λ (u : UnackedValue). AreDue u es) (sym c.list_replica.ensures.unacked) c.self.invariant.due) x w c.self.invariant.unacknowledged.by_file
           c.replace.ensures.due _ found set;

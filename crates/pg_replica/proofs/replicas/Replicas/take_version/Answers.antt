@@ -5,7 +5,6 @@ use Rattle.pg_replica.proofs.InOrder.{lookup-in_order, in_order-same, in_order-s
 use Rattle.pg_replica.specs.declared.replica.Replica.{Replica}
 use Rattle.pg_replica.specs.Replica.{covers, with_head}
 use Rattle.pg_replica.specs.Replicas.{ByFile, replica_in, edge_count, replicas_taking, takes_version}
-use Rattle.pg_replica.proofs.FewEdges.{few_there}
 use Rattle.pg_replica.proofs.Redues.{due_there}
 use Rattle.pg_replica.proofs.Relisting.{index_there}
 use Rattle.pg_replica.proofs.Takings.{chosen_nowhere, chosen_there, found_in, if_false, if_not, if_true, none_in, ok_more}
@@ -13,37 +12,36 @@ use Rattle.pg_replica.proofs.replicas.Replicas.take_version.Goals as goal
 
 pub invariant_of-self-2 : goal.invariant_of-self-2
 invariant_of-self-2 c =
-    let w = c.take_listed-news.new.replica in
+    let w = c.take_listed.new.replica in
     let found = lookup-in_order c.args.file c.self.inside.by_file.entries ∙ sym c.in-Some.ensures.value in
     let set = in_order-set c.self.inside.by_file (c.get_mut.follows.lender w) c.args.file _ w (sym c.in-Some.ensures.value) (c.get_mut.follows.holds w).3 in
     record {
-      unacknowledged = index_there (in_order c.self.inside.by_file.entries) c.self.invariant.unacknowledged c.take_listed-news.ensures.listed file_cmp refl _ found set;
-      ended = index_there (in_order c.self.inside.by_file.entries) c.self.invariant.ended c.take_listed-news.ensures.ended file_cmp refl _ found set;
-      few = few_there (in_order c.self.inside.by_file.entries) c.self.invariant.few (c.update.ensures c.in-Some.replica.now w (sym c.len-before.ensures.len) (sym c.len.ensures.len)) _ found set;
-      due = due_there (in_order c.self.inside.by_file.entries) c.self.invariant.due _ w c.self.invariant.unacknowledged.by_file c.take_listed-news.ensures.due _ found set;
+      unacknowledged = index_there (in_order c.self.inside.by_file.entries) c.self.invariant.unacknowledged c.take_listed.ensures.listed file_cmp refl _ found set;
+      ended = index_there (in_order c.self.inside.by_file.entries) c.self.invariant.ended c.take_listed.ensures.ended file_cmp refl _ found set;
+      due = due_there (in_order c.self.inside.by_file.entries) c.self.invariant.due _ w c.self.invariant.unacknowledged.by_file c.take_listed.ensures.due _ found set;
     }
 
 pub returns-clause-news : goal.returns-clause-news
 returns-clause-news c =
     let there = found_in c.self.view_is c.args.file c.in-Some.replica.now (lookup-in_order c.args.file c.self.inside.by_file.entries ∙ sym c.in-Some.ensures.value) in
-    let P : Option Replica → Type 0 = λ o. IfOk c.take_listed-news.result (λ news. news ≡ takes_version o c.args.version) in
-    subst P (sym there) (c.take_listed-news.ensures.news)
+    let P : Option Replica → Type 0 = λ o. IfOk c.take_listed.result (λ news. news ≡ takes_version o c.args.version) in
+    subst P (sym there) (c.take_listed.ensures.news)
 
 pub returns-clause-tags : goal.returns-clause-tags
 returns-clause-tags c =
     let there = found_in c.self.view_is c.args.file c.in-Some.replica.now (lookup-in_order c.args.file c.self.inside.by_file.entries ∙ sym c.in-Some.ensures.value) in
-    let P : Option Replica → Type 0 = λ o. OnOk c.take_listed-news.result (c.take_listed-news.new.tags ≡ cond (takes_version o c.args.version) (c.args.tags.now + edge_count o) c.args.tags.now) in
-    subst P (sym there) (ok_more c.take_listed-news.result _ _ c.take_listed-news.ensures.tags (λ is. is ∙ if_not (covers c.in-Some.replica.now c.args.version) c.args.tags.now (c.args.tags.now + length c.in-Some.replica.now.edges)))
+    let P : Option Replica → Type 0 = λ o. OnOk c.take_listed.result (c.take_listed.new.tags ≡ cond (takes_version o c.args.version) (c.args.tags.now + edge_count o) c.args.tags.now) in
+    subst P (sym there) (ok_more c.take_listed.result _ _ c.take_listed.ensures.tags (λ is. is ∙ if_not (covers c.in-Some.replica.now c.args.version) c.args.tags.now (c.args.tags.now + length c.in-Some.replica.now.edges)))
 
 pub returns-clause-replicas : goal.returns-clause-replicas
 returns-clause-replicas c =
     let es = in_order c.self.inside.by_file.entries in
-    let w = c.take_listed-news.new.replica in
+    let w = c.take_listed.new.replica in
     let ds = in_order (c.get_mut.follows.lender w).entries in
     let found = lookup-in_order c.args.file c.self.inside.by_file.entries ∙ sym c.in-Some.ensures.value in
     let set = in_order-set c.self.inside.by_file (c.get_mut.follows.lender w) c.args.file _ w (sym c.in-Some.ensures.value) (c.get_mut.follows.holds w).3 in
     let P : ByFile → Type 0 = λ rs. ds ≡ cond (takes_version (replica_in rs c.args.file) c.args.version) (replicas_taking rs c.args.file c.args.version c.args.tags.now (replica_in rs c.args.file)) rs in
-    ok_more c.take_listed-news.result _ _ c.take_listed-news.ensures.replica (λ is.
+    ok_more c.take_listed.result _ _ c.take_listed.ensures.replica (λ is.
     subst P c.self.view_is
     (chosen_there es ds c.args.file c.in-Some.replica.now w c.self.invariant.unacknowledged.by_file found set (λ o. takes_version o c.args.version) (λ o. replicas_taking es c.args.file c.args.version c.args.tags.now o)
     (with_head c.in-Some.replica.now c.args.version c.args.tags.now) refl

@@ -1,5 +1,5 @@
 use Rattle.std.proofs.Common.{sym, ap, ◌∙◌}
-use Rattle.pg_store.specs.Store.{entry_news, is_any_news, is_newer_entry, put_entry}
+use Rattle.pg_store.specs.Store.{is_any_news, is_newer_entry, put_entry}
 use Rattle.pg_store.proofs.News.{left_as, taken_if, tells_news}
 use Rattle.pg_store.proofs.store.Store.take_entry.Goals as goal
 
