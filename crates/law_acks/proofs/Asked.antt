@@ -20,6 +20,7 @@ use Rattle.pg_run.specs.pg_names.Names.{cell_at, own_at}
 use Rattle.pg_run.specs.pg_replica.declared.replica.Replica.{Replica}
 use Rattle.pg_run.specs.pg_store.declared.store.Store.{Store}
 use Rattle.pg_run.specs.pg_store.Births.{birth_of}
+use Rattle.pg_run.specs.pg_store.Seen.{server_of}
 use Rattle.pg_run.specs.pg_cells.Sending.{Wanted, cells_where, told_as}
 use Rattle.pg_run.specs.pg_intentions.Requests.{bye_message, confirm_message, leave_message, request}
 use Rattle.pg_run.specs.theory_flood_pieces.Seen.{says, saying}
@@ -67,7 +68,7 @@ IsUnread m = says m ≡ Other
 pub all_unread : (b : Store) → All (AskHas IsUnread b) b.intents
 all_unread b =
     All-every (AskHas IsUnread b) b.intents
-    (λ i m is asked. request_other b b.names.server (target_of i) i m is)
+    (λ i m is asked. request_other b (server_of b) (target_of i) i m is)
 
 -- nor are they grants or walks
 

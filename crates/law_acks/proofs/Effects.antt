@@ -21,7 +21,8 @@ use Rattle.pg_run.specs.pg_msg.Work.{new_work}
 use Rattle.pg_run.specs.pg_names.Names.{is_dir}
 use Rattle.pg_run.specs.pg_register.Flag.{IsByServer}
 use Rattle.pg_run.specs.pg_store.declared.store.Store.{Store}
-use Rattle.pg_run.specs.pg_store.Servers.{is_live_other, view_of}
+use Rattle.pg_run.specs.pg_store.Seen.{server_of, view_of}
+use Rattle.pg_run.specs.pg_store.Servers.{is_live_other}
 use Rattle.pg_run.specs.pg_store.Store.{acknowledge, is_before_clock_end}
 use Rattle.pg_run.specs.pg_pieces.declared.accepting.EdgeUse.TheVariants as manner
 use Rattle.pg_run.specs.pg_pieces.Accepting.{accept}
@@ -231,11 +232,11 @@ module _ (along : Along) (n s : ℕ) (a : Store) (k : IsWhole n s a) (of : AreOf
   other_by from h =
       let one = and_parts (nat_le 1 from) _ h in
       let two = and_parts (nat_le from a.servers) _ one.1 in
-      let three = and_parts (not (from == a.names.server)) _ two.1 in
+      let three = and_parts (not (from == server_of a)) _ two.1 in
       record {
         least = leb-true 1 from one.0;
         most = subst (λ m. from ≤ m) k.servers (leb-true from a.servers two.0);
-        apart = λ same. apart_by (from == a.names.server) (eq-eqb from a.names.server (same ∙ sym k.server)) three.0;
+        apart = λ same. apart_by (from == server_of a) (eq-eqb from (server_of a) (same ∙ sym k.server)) three.0;
       }
     where
       apart_by : (t : Bool) → t ≡ true → not t ≡ true → ⊥

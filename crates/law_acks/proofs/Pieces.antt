@@ -23,6 +23,7 @@ use Rattle.pg_run.specs.pg_replica.Replicas.{takes_link}
 use Rattle.pg_run.specs.pg_store.declared.store.Store.{Store}
 use Rattle.pg_run.specs.pg_store.Beginning.{begin, let_go}
 use Rattle.pg_run.specs.pg_store.Links.{link, put_link}
+use Rattle.pg_run.specs.pg_store.Seen.{server_of}
 use Rattle.pg_run.specs.pg_store.Store.{is_held, put_flag, put_place, replica_at, take_entry, take_flag, take_place, take_version, with_names}
 use Rattle.pg_run.specs.pg_store.Together.{AreTogether, birth_at}
 use Rattle.pg_run.specs.pg_pieces.Accepting.{link_peer}
@@ -229,7 +230,7 @@ module _ (n s : ℕ) (a : Store) (heard : Hearing) where
         let sent = sent_to b to m in
         sent_done b work u sent
         (λ c f. others_may heard.along s a c heard.said (sent ∷ [])
-        (All-cons (λ z. says z ≡ Other) sent [] (other b.names.server) (All-nil (λ z. says z ≡ Other))))
+        (All-cons (λ z. says z ≡ Other) sent [] (other (server_of b)) (All-nil (λ z. says z ≡ Other))))
         well
 
     -- AND GOES LAST
@@ -238,7 +239,7 @@ module _ (n s : ℕ) (a : Store) (heard : Hearing) where
     posted_last to m other well = record {
       way = u.way;
       said = u.said;
-      last = All-push (MayGoLast n) work.tail (sent_to b to m) u.last (other b.names.server, well);
+      last = All-push (MayGoLast n) work.tail (sent_to b to m) u.last (other (server_of b), well);
     }
 
   -- ---- more of these

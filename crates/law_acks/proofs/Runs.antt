@@ -30,7 +30,7 @@ use Rattle.pg_run.specs.Journal.{mail}
 use Rattle.pg_run.specs.Ruled.{EventsKeepTheRule, KeepsTheRule, heard_in, late_in}
 use Rattle.pg_run.specs.Run.{Step, Taking, World, effect_step, run, start, taking_in, world_after}
 use Rattle.pg_run.proofs.Late.{late_in_mail}
-use Rattle.pg_run.proofs.Frame.{Acts, HasCome, acts_is, all_parts, each_after, holds_in_runs, next_is, run_more}
+use Rattle.pg_run.proofs.Frame.{Acts, HasCome, acts_is, all_parts, each_after, holds_in_runs, next_is, no_server_comes, run_more}
 use Rattle.law_acks.specs.Laws.{StandOn}
 use Rattle.law_acks.proofs.Effects.{SuitsInput, effect_good, first_done}
 use Rattle.law_acks.proofs.Ends.{IsFirst, IsKind}
@@ -203,6 +203,7 @@ pub run_keeps : (n : ℕ) → StandOn n → (events : List Event) → Keeps n (r
 run_keeps n on events = holds_in_runs n (Keeps n) (record {
   first = starts n;
   idle = λ w event cause k. record { whole = k.whole; tags = k.tags; edges = k.edges; said = k.said };
+  comes = λ past event server is k. absurd (no_server_comes event server is);
   acts = λ before event t is acts k. acted n on before event t is acts k;
 }) events
 

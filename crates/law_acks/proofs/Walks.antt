@@ -12,6 +12,7 @@ use Rattle.pg_run.specs.pg_msg.declared.work.Work.{Work}
 use Rattle.pg_run.specs.pg_store.declared.store.Store.{Store}
 use Rattle.pg_run.specs.pg_store.Births.{birth_of}
 use Rattle.pg_run.specs.pg_store.Links.{knows_later}
+use Rattle.pg_run.specs.pg_store.Seen.{server_of}
 use Rattle.pg_run.specs.pg_store.Store.{is_held}
 use Rattle.pg_run.specs.pg_pieces.declared.accepting.EdgeUse.TheVariants as manner
 use Rattle.pg_run.specs.pg_pieces.Accepting.{accept, is_accepted, link_peer}
@@ -73,11 +74,11 @@ module _ (n s : ℕ) (a : Store) (heard : Hearing) where
 
   -- the origin is another server of the run
   origin_other : (b : Store) (work : Work) → At b work → (origin : ℕ) → 1 ≤ origin → origin ≤ n
-      → (origin == b.names.server) ≡ false → IsOther n s origin
+      → (origin == server_of b) ≡ false → IsOther n s origin
   origin_other b work u origin least most apart = record {
     least = least;
     most = most;
-    apart = λ same. same_not origin b.names.server (same ∙ sym u.way.whole.server) apart;
+    apart = λ same. same_not origin (server_of b) (same ∙ sym u.way.whole.server) apart;
   }
 
   pub walk_done : (b : Store) (work : Work) → At b work → (ends : Ends) (origin birth hops word : ℕ)
@@ -85,7 +86,7 @@ module _ (n s : ℕ) (a : Store) (heard : Hearing) where
       → Is (walk b ends origin birth hops word work)
   walk_done b work u ends origin birth hops word other least most =
       let edges = onward b ends.file work.from origin in
-      let here = origin == b.names.server in
+      let here = origin == server_of b in
       let gone = walked b ends origin birth hops word edges work in
       chosen Is (is_accepted b work.from manner.Needs ends) (cond here (idle b work) gone)
       (accept b ends manner.Needs work)
@@ -98,15 +99,15 @@ module _ (n s : ℕ) (a : Store) (heard : Hearing) where
       (accept_done n s a heard b work u ends manner.Needs other)
 
   -- the walk of a tick
-  from_done : (b : Store) (work : Work) → At b work → 1 ≤ b.names.server → b.names.server ≤ n
+  from_done : (b : Store) (work : Work) → At b work → 1 ≤ server_of b → server_of b ≤ n
       → (word : ℕ) (o : Option FileId) → At b (walk_from b word work o)
   from_done b work u least most word None = u
   from_done b work u least most word (Some file) =
       let edges = edges_of b file in
-      along_done b work u file b.names.server (birth_of b file) most_hops (word / length edges) least most
+      along_done b work u file (server_of b) (birth_of b file) most_hops (word / length edges) least most
       (slice_get edges (word % length edges))
 
-  pub tick_walk_done : (b : Store) (work : Work) → At b work → 1 ≤ b.names.server → b.names.server ≤ n
+  pub tick_walk_done : (b : Store) (work : Work) → At b work → 1 ≤ server_of b → server_of b ≤ n
       → (word : ℕ) → At b (walk_of_tick b word work)
   tick_walk_done b work u least most word =
       let files = with_few_edges b in

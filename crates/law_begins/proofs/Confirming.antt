@@ -24,6 +24,7 @@ use Rattle.law_order.specs.pg_server.declared.input.Input.{Input}
 use Rattle.law_order.specs.pg_server.declared.input.Input.TheVariants as input
 use Rattle.law_order.specs.pg_server.Local.{Effect, closed, effect, finished, first_effect, is_heard, receive, reply_to, ticked, without_sources}
 use Rattle.law_order.specs.pg_store.declared.store.Store.{Store}
+use Rattle.law_order.specs.pg_store.Seen.{server_of}
 use Rattle.law_order.specs.pg_store.Store.{is_before_clock_end}
 use Rattle.law_order.specs.pg_run.Run.{Step, next, run}
 use Rattle.law_order.proofs.pg_intent.Found.{stands_is}
@@ -47,7 +48,7 @@ from_notes : (a : Store) (word : ℕ) (w : Work) (o : Option FileId) → (walk_f
 from_notes a word w None = refl
 from_notes a word w (Some f) =
     let es = edges_of a f in
-    along_notes a f a.names.server (birth_of a f) most_hops (word / length es) w (slice_get es (word % length es))
+    along_notes a f (server_of a) (birth_of a f) most_hops (word / length es) w (slice_get es (word % length es))
 
 tick_notes : (a : Store) (word : ℕ) (w : Work) → (walk_of_tick a word w).unsure ≡ w.unsure
 tick_notes a word w =

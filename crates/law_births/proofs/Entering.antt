@@ -28,6 +28,7 @@ use Rattle.law_order.specs.pg_replica.declared.replica.Replica.{Replica}
 use Rattle.law_order.specs.pg_store.declared.store.Store.{Store}
 use Rattle.law_order.specs.pg_store.Beginning.{with_intents}
 use Rattle.law_order.specs.pg_store.Births.{with_wishes}
+use Rattle.law_order.specs.pg_store.Seen.{removed_of}
 use Rattle.law_order.specs.pg_store.Servers.{next_target}
 use Rattle.law_order.specs.pg_store.Store.{is_newer_flag, put_flag, replica_at, take_flag, with_names}
 use Rattle.law_order.specs.pg_store.Views.{enter, turn, without_peer}
@@ -119,43 +120,43 @@ one_removed (r ∷ rs) server = by (r == server) (one_removed rs server)
     by false rest = rest
 
 -- in the view that is entered the server is removed
-pub enter_removed : (a : Store) (server : ℕ) → is_removed (enter a server).names.removed server ≡ true
+pub enter_removed : (a : Store) (server : ℕ) → is_removed (removed_of (enter a server)) server ≡ true
 enter_removed a server =
-    ap (λ (s : NamesValue). is_removed s.removed server) (enter_names a server) ∙ one_removed a.names.removed server
+    ap (λ (s : NamesValue). is_removed s.removed server) (enter_names a server) ∙ one_removed (removed_of a) server
 
 module _ (a : Store) (asked : Input) where
   abbrev Same : List ℕ → Store → Type 0
-  Same rs b = b.names.removed ≡ rs
+  Same rs b = removed_of b ≡ rs
 
-  flag_same : (b : Store) (f : FileId) → Same b.names.removed (take_flag b f (own_next b f true))
+  flag_same : (b : Store) (f : FileId) → Same (removed_of b) (take_flag b f (own_next b f true))
   flag_same b f =
       let g = own_next b f true in
-      chosen (Same b.names.removed) (is_newer_flag b f g) (put_flag b f g) b (update_frame b.names f (with_flag g)).removed refl
+      chosen (Same (removed_of b)) (is_newer_flag b f g) (put_flag b f g) b (update_frame b.names f (with_flag g)).removed refl
 
-  rules_same : (b : Store) (w : Work) → Same b.names.removed (rules b w).store
+  rules_same : (b : Store) (w : Work) → Same (removed_of b) (rules b w).store
   rules_same b w =
       let st = house w.now (state_of b.names w) in
       ap (λ (s : NamesValue). s.removed) (same_names (with_names b st.names) (drop (length w.touched) st.work.touched))
       ∙ (rules_by w.now (state_of b.names w)).1
 
-  settle_same : (b : Store) (w : Work) → Same b.names.removed (settle b w).store
+  settle_same : (b : Store) (w : Work) → Same (removed_of b) (settle b w).store
   settle_same b w =
-      settle_keeps (λ (c : Store) (v : Work). Same b.names.removed c) (λ c v k. rules_same c v ∙ k) (λ c f v less k. flag_same c f ∙ k) b w refl
+      settle_keeps (λ (c : Store) (v : Work). Same (removed_of b) c) (λ c v k. rules_same c v ∙ k) (λ c f v less k. flag_same c f ∙ k) b w refl
 
-  closed_same : (r : Option Reply) (d : Done) → Same d.store.names.removed (closed r d).store
+  closed_same : (r : Option Reply) (d : Done) → Same (removed_of d.store) (closed r d).store
   closed_same r d =
       ap (λ (s : NamesValue). s.removed) (begin_end_stays (settled d).store (settled d).work).names ∙ settle_same d.store d.work
 
   -- who was removed in it
-  pub end_removed : (effect a asked).store.names.removed ≡ (first_effect a asked).store.names.removed
+  pub end_removed : removed_of (effect a asked).store ≡ removed_of (first_effect a asked).store
   end_removed =
       let d = first_effect a asked in
       let r = reply_to a asked in
-      chosen (λ (e : Effect). e.store.names.removed ≡ d.store.names.removed) (takes_effect a asked) (closed r d) (finished r d) (closed_same r d) refl
+      chosen (λ (e : Effect). removed_of e.store ≡ removed_of d.store) (takes_effect a asked) (closed r d) (finished r d) (closed_same r d) refl
 
 -- a server that is given up is removed in the view behind the event
 removed_by : (a : Store) (moment view server : ℕ) (u : Unit {0}) (o : Result (Unit {0}) LookupError) → o ≡ Ok u
-    → is_removed (answered a (new_work moment 0) o (λ found. answer (enter_view a server (new_work moment 0)) reply.Done)).store.names.removed server ≡ true
+    → is_removed (removed_of (answered a (new_work moment 0) o (λ found. answer (enter_view a server (new_work moment 0)) reply.Done)).store) server ≡ true
 removed_by a moment view server u (Ok v) at = enter_removed a server
 removed_by a moment view server u (Err why) at = absurd (no_ok why u at)
 
@@ -163,5 +164,5 @@ pub removed_behind : (a : Store) (asked : Input) (moment view server : ℕ) (u :
     → removal_at a view server ≡ Ok u → IsRemovedBehind a asked server
 removed_behind a asked moment view server u is at =
     ap (λ (rs : List ℕ). is_removed rs server) (end_removed a asked)
-    ∙ ap (λ (x : Input). is_removed (first_effect a x).store.names.removed server) is
+    ∙ ap (λ (x : Input). is_removed (removed_of (first_effect a x).store) server) is
     ∙ removed_by a moment view server u (removal_at a view server) at

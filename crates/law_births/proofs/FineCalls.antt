@@ -22,6 +22,7 @@ use Rattle.law_order.specs.pg_store.declared.store.Store.{Store}
 use Rattle.law_order.specs.pg_store.declared.wishes.Wish.{Wish}
 use Rattle.law_order.specs.pg_store.Beginning.{begin}
 use Rattle.law_order.specs.pg_store.Births.{draw_birth, with_birth, with_wish}
+use Rattle.law_order.specs.pg_store.Seen.{removed_of}
 use Rattle.law_order.specs.pg_store.Store.{is_full, is_held, replica_at, with_names}
 use Rattle.law_order.specs.pg_store.Together.{AreTogether, HoldsAsBefore, birth_at}
 use Rattle.law_order.specs.pg_store.Views.{enter}
@@ -128,10 +129,10 @@ module _ (P : FileId → ℕ → ℕ → Type 0) (G : FileId → ℕ → Type 0)
       both_b : AreTogether b
       both_b = enter_together a server both
 
-      loose_in : (file : FileId) (o : Option Attributes) (e : Edge) → first_loose b.names.removed o (edges_of b file) ≡ Some e → P file e.peer e.birth
+      loose_in : (file : FileId) (o : Option Attributes) (e : Edge) → first_loose (removed_of b) o (edges_of b file) ≡ Some e → P file e.peer e.birth
       loose_in file None e is = absurd (let z : ◌≡◌ {A = Option Edge} None (Some e) = is in cc)
       loose_in file (Some own) e is =
-          find_has (λ (x : Edge). P file x.peer x.birth) (λ x. not (matches b.names.removed own.flags x)) (edges_of b file) e
+          find_has (λ (x : Edge). P file x.peer x.birth) (λ x. not (matches (removed_of b) own.flags x)) (edges_of b file) e
           (edges_named P Q G s from b file (replica_at b file) refl edges_b) is
 
       along_fine : (file : FileId) (o : Option Edge) (v : Work) → is_held b file ≡ true → ((e : Edge) → o ≡ Some e → P file e.peer e.birth)

@@ -29,6 +29,7 @@ use Rattle.law_order.specs.pg_store.declared.store.Store.{Store}
 use Rattle.law_order.specs.pg_store.declared.wishes.Wish.{Wish}
 use Rattle.law_order.specs.pg_store.Beginning.{patches_of, put_new, take_patch, take_patches, take_told, take_told_in, with_intents}
 use Rattle.law_order.specs.pg_store.Births.{draw_birth, with_birth, with_wish}
+use Rattle.law_order.specs.pg_store.Seen.{server_of}
 use Rattle.law_order.specs.pg_store.Store.{is_held, is_newer_entry, is_newer_flag, is_newer_place, put_entry, put_flag, put_place, replica_at, take_entry, take_flag, take_place, write}
 use Rattle.law_order.specs.pg_store.Together.{AreTogether, birth_at}
 use Rattle.law_order.proofs.pg_store.Pairs.{write_as_before}
@@ -69,7 +70,7 @@ use Rattle.law_births.proofs.Unmade.{MakesNone, call_none, placed_none, raised_n
 -- ---- a server is itself whatever it takes
 
 abbrev IsSameServer : Store → Store → Type 0
-IsSameServer a b = b.names.server ≡ a.names.server
+IsSameServer a b = server_of b ≡ server_of a
 
 place_server : (a : Store) (f : FileId) (place : Place) → IsSameServer a (take_place a f place)
 place_server a f place =
@@ -129,7 +130,7 @@ one_made s d f stamp ranges none server x here =
     subst (All (IsMadeHere s b)) (sym one)
     (All-cons (IsMadeHere s b) u [] (server, x.birth, birth) (All-nil (IsMadeHere s b)))
 
-module _ (s : ℕ) (a : Store) (server : a.names.server ≡ s) (both : AreTogether a) (moment : ℕ) where
+module _ (s : ℕ) (a : Store) (server : server_of a ≡ s) (both : AreTogether a) (moment : ℕ) where
   abbrev W : Work
   W = new_work moment 0
 
@@ -177,7 +178,7 @@ module _ (s : ℕ) (a : Store) (server : a.names.server ≡ s) (both : AreTogeth
     thing_none : versions_in Thing.work.made ≡ []
     thing_none = raised_none Placed.store id Placed.work ∙ placed_none Begun id (place_in (with_id a) moment new) W
 
-    thing_server : Thing.store.names.server ≡ s
+    thing_server : server_of Thing.store ≡ s
     thing_server =
         flag_server Placed.store id (own_next Placed.store id true)
         ∙ place_server Begun id (place_in (with_id a) moment new)
@@ -232,7 +233,7 @@ intended_here s d h =
     same_made s d (intended d) (ap versions_in (begin_end_stays d.store d.work).made)
     (λ file. ap (λ rs. option_map (λ (x : Replica). x.birth) (replica_in rs file)) (begin_end_stays d.store d.work).replicas) h
 
-module _ (s : ℕ) (a : Store) (server : a.names.server ≡ s) (both : AreTogether a) where
+module _ (s : ℕ) (a : Store) (server : server_of a ≡ s) (both : AreTogether a) where
   first_is : FirstHas (λ packet. Unit {0}) a (IsMade s)
   first_is = record {
     calls = λ moment c. call_made s a server both moment c;

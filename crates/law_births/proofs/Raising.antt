@@ -9,6 +9,7 @@ use Rattle.law_order.specs.pg_names.Names.{InodeValue, is_flag_new, known, own_o
 use Rattle.law_order.specs.pg_register.declared.flag.Flag.{Flag}
 use Rattle.law_order.specs.pg_store.declared.store.Store.{Store}
 use Rattle.law_order.specs.pg_store.Births.{birth_of}
+use Rattle.law_order.specs.pg_store.Seen.{server_of}
 use Rattle.law_order.specs.pg_store.Store.{is_held, is_newer_flag, put_flag, take_flag}
 use Rattle.law_order.specs.pg_pieces.Done.{Done, idle}
 use Rattle.law_order.specs.pg_pieces.Making.{make_flag, own_next}
@@ -30,7 +31,7 @@ module _ (P : FileId → ℕ → ℕ → Type 0) (G : FileId → ℕ → Type 0)
   Fine d = IsSaid P (OfBirths P) G s from d
 
   -- a server's own flag is one, where its birth was given out
-  own_fine : (b : Store) (f : FileId) (raised : Bool) → b.names.server ≡ s → P f s (birth_of b f) → Q f (own_next b f raised)
+  own_fine : (b : Store) (f : FileId) (raised : Bool) → server_of b ≡ s → P f s (birth_of b f) → Q f (own_next b f raised)
   own_fine b f raised server one = let R : ℕ → Type 0 = λ z. P f z (birth_of b f) in subst R (sym server) one
 
   -- what is not held takes none

@@ -39,6 +39,7 @@ use Rattle.law_order.specs.pg_store.declared.store.Store.{Store}
 use Rattle.law_order.specs.pg_store.Births.{birth_of, fill_at}
 use Rattle.law_order.specs.pg_store.Links.{is_linked}
 use Rattle.law_order.specs.pg_store.Cells.{cell_at, entry_cell, flag_cell, is_sure, version_cell}
+use Rattle.law_order.specs.pg_store.Seen.{server_of}
 use Rattle.law_order.specs.pg_store.Store.{is_held, replica_at}
 use Rattle.law_order.specs.pg_store.Together.{AreTogether, birth_at}
 use Rattle.law_order.specs.pg_cells.Sending.{Wanted, cells_where, told_as}
@@ -128,7 +129,7 @@ module _ (P : FileId → ℕ → ℕ → Type 0) (G : FileId → ℕ → Type 0)
   cell_says b f (key.Version stamp) c k there = version_says f c _ there
 
   -- what tells of a cell
-  told_says : (b : Store) (to : ℕ) (x : Ends) (tag : ℕ) (c : Cell) → b.names.server ≡ s → ends_named P s to x → SaysCell Of x.file c
+  told_says : (b : Store) (to : ℕ) (x : Ends) (tag : ℕ) (c : Cell) → server_of b ≡ s → ends_named P s to x → SaysCell Of x.file c
       → Sends (sent_to b to (told_as x tag c))
   told_says b to x tag (cells.Place place) server named says = (named, (says, server))
   told_says b to x tag (cells.Flag flag) server named says = (named, (says, server))

@@ -23,6 +23,7 @@ use Rattle.law_order.specs.pg_server.Local.{Effect, closed, effect, finished, fi
 use Rattle.law_order.specs.pg_store.declared.store.Store.{Store}
 use Rattle.law_order.specs.pg_store.declared.wishes.Wish.{Wish}
 use Rattle.law_order.specs.pg_store.Births.{birth_of, draw_birth, fill_at, has_birth, is_pending, wish_at, with_birth, with_wish}
+use Rattle.law_order.specs.pg_store.Seen.{removed_of, server_of}
 use Rattle.law_order.specs.pg_store.Store.{is_held, is_before_clock_end, replica_at}
 use Rattle.law_order.specs.pg_store.Together.{birth_at}
 use Rattle.law_order.specs.pg_pieces.Done.{Done, idle}
@@ -83,7 +84,7 @@ goldless_by removed server birth None h = absurd (let z : false ≡ true = h in 
 goldless_by removed server birth (Some x) h = refl
 
 goldless_there : (b : Store) (f : FileId) → is_goldless b f ≡ true → is_held b f ≡ true
-goldless_there b f h = goldless_by b.names.removed b.names.server (birth_of b f) (names_known b.names f) h
+goldless_there b f h = goldless_by (removed_of b) (server_of b) (birth_of b f) (names_known b.names f) h
 
 -- ---- births that go on to the end of the event
 

@@ -31,6 +31,7 @@ use Rattle.law_order.specs.pg_register.declared.place.Place.{Place}
 use Rattle.law_order.specs.pg_server.Local.{receive}
 use Rattle.law_order.specs.pg_store.declared.store.Store.{Store}
 use Rattle.law_order.specs.pg_store.Births.{birth_of}
+use Rattle.law_order.specs.pg_store.Seen.{server_of}
 use Rattle.law_order.specs.pg_store.Views.{enter}
 use Rattle.law_order.proofs.theory_flood_pieces.Choices.{chosen}
 use Rattle.law_order.specs.pg_run.Journal.{versions_in}
@@ -125,7 +126,7 @@ from_none : (b : Store) (word : ℕ) (w : Work) (o : Option FileId) → MakesNon
 from_none b word w None = refl
 from_none b word w (Some f) =
     let es = edges_of b f in
-    walk_goes_none b f b.names.server (birth_of b f) most_hops (word / length es) w (slice_get es (word % length es))
+    walk_goes_none b f (server_of b) (birth_of b f) most_hops (word / length es) w (slice_get es (word % length es))
 
 pub walk_of_none : (b : Store) (word : ℕ) (w : Work) → MakesNone w (walk_of_tick b word w)
 walk_of_none b word w =

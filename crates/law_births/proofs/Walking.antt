@@ -12,6 +12,7 @@ use Rattle.law_order.specs.pg_replica.declared.replica.Replica.{Replica}
 use Rattle.law_order.specs.pg_replica.Replicas.{or_nothing}
 use Rattle.law_order.specs.pg_store.declared.store.Store.{Store}
 use Rattle.law_order.specs.pg_store.Births.{birth_of}
+use Rattle.law_order.specs.pg_store.Seen.{server_of}
 use Rattle.law_order.specs.pg_store.Store.{replica_at}
 use Rattle.law_order.specs.pg_pieces.Done.{Done, idle}
 use Rattle.law_order.specs.pg_repair.Fetching.{ends_to}
@@ -54,12 +55,12 @@ module _ (P : FileId → ℕ → ℕ → Type 0) (Q : FileId → Flag → Type 0
 
   -- the walk of a tick, from a replica here
   from_file : (a : Store) (f : FileId) (word i : ℕ) (w : Work) (o : Option Replica) → replica_at a f ≡ o → IsBorn a → Said (idle a w)
-      → Said (idle a (walk_along a f a.names.server (birth_of a f) most_hops word w (slice_get (or_nothing o).edges i)))
+      → Said (idle a (walk_along a f (server_of a) (birth_of a f) most_hops word w (slice_get (or_nothing o).edges i)))
   from_file a f word i w None there born k = k
   from_file a f word i w (Some x) there born k =
       let own = own_named P Q G s from a f born (x.birth, ap (option_map (λ (y : Replica). y.birth)) there) in
       let R : ℕ → Type 0 = λ z. P f z (birth_of a f) in
-      along_by a f a.names.server (birth_of a f) most_hops word w (slice_get x.edges i)
+      along_by a f (server_of a) (birth_of a f) most_hops word w (slice_get x.edges i)
       (λ e is. (got (λ (z : Edge). P f z.peer z.birth) x.edges i e (edges_named a f (Some x) there k.edges) is, (own, subst R (sym k.store.names.server) own))) k
 
   from_by : (a : Store) (word : ℕ) (w : Work) (o : Option FileId) → IsBorn a → Said (idle a w) → Said (idle a (walk_from a word w o))

@@ -16,6 +16,7 @@ use Rattle.law_ticks.specs.pg_run.pg_server.declared.input.Input.{Input}
 use Rattle.law_ticks.specs.pg_run.pg_server.declared.input.Input.TheVariants as input
 use Rattle.law_ticks.specs.pg_run.pg_server.Local.{effect, first_effect, ticked, without_sources}
 use Rattle.law_ticks.specs.pg_run.pg_store.declared.store.Store.{Store}
+use Rattle.law_ticks.specs.pg_run.pg_store.Seen.{server_of}
 use Rattle.law_ticks.specs.pg_run.pg_pieces.Done.{Done}
 use Rattle.law_ticks.specs.pg_run.pg_cells.Sending.{Wanted as Chosen, cells_where, is_any, is_chosen}
 use Rattle.law_ticks.specs.pg_run.pg_cells.Ticks.{tick}
@@ -37,7 +38,7 @@ module _ (a : Store) (asked : Input) where
     pub wanted : Wanted
     pub is : packet.message ≡ message.Want ends wanted
     pub asker : m.to ≡ packet.from
-    pub from : m.packet.from ≡ a.names.server
+    pub from : m.packet.from ≡ server_of a
     pub of : IsOfBody ends.file wanted.stamp m.packet.message
 
   abbrev pub Q : Sent → Type 0

@@ -17,6 +17,7 @@ use Rattle.law_ticks.specs.pg_run.Bodies.{AnswersWant, BodiesAnswerWants, body_b
 use Rattle.law_ticks.specs.pg_run.Histories.{TellsOfHistory}
 use Rattle.law_ticks.specs.pg_run.Journal.{mail}
 use Rattle.law_ticks.specs.pg_run.Run.{Step, Taking, World, next, run, start, taking_in}
+use Rattle.law_ticks.specs.pg_run.pg_store.Seen.{server_of}
 use Rattle.law_ticks.proofs.pg_run.Frame.{IsFramed, framed, run_more}
 use Rattle.law_bodies.proofs.Short.{IsShort}
 use Rattle.law_bodies.proofs.Sent.{Q, all_short}
@@ -65,7 +66,7 @@ module _ (n : ℕ) (stand : StandOn n) (events : List Event) (event : Event) (m 
   answers_by (Some t) is f =
       let a = W.stores t.server in
       let here : Contains (effect a t.asked).out.sent m = subst (λ (z : Step). Contains z.entry.sent m) f.1 sent in
-      let server : a.names.server ≡ t.server = (stand.whole events t.server f.0.least f.0.most).server in
+      let server : server_of a ≡ t.server = (stand.whole events t.server f.0.least f.0.most).server in
       elim (All-contains (Q a t.asked) (effect a t.asked).out.sent m (all_short a t.asked) here) [
         | inl short ↦ absurd (few_bytes (run n (events ++ event ∷ [])) m.packet.message short told more)
         | inr g ↦ record {
@@ -80,8 +81,8 @@ module _ (n : ℕ) (stand : StandOn n) (events : List Event) (event : Event) (m 
       ]
     where
       taken : (u : Taking) (p : Packet) → u.asked ≡ input.Arrival p
-          → (W.stores u.server).names.server ≡ u.server
-          → m.packet.from ≡ (W.stores u.server).names.server
+          → server_of (W.stores u.server) ≡ u.server
+          → m.packet.from ≡ server_of (W.stores u.server)
           → Some u ≡ Some (record { server = m.packet.from; asked = input.Arrival p })
       taken u p comes server from =
           ap Some (same_taking u.server m.packet.from u.asked (input.Arrival p) (sym (from ∙ server)) comes)

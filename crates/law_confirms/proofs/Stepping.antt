@@ -15,7 +15,7 @@ use Rattle.law_listings.specs.pg_register.Place.{root}
 use Rattle.law_listings.specs.pg_server.declared.input.Input.{Input}
 use Rattle.law_listings.specs.pg_server.Local.{effect}
 use Rattle.law_listings.specs.pg_store.declared.store.Store.{Store}
-use Rattle.law_listings.specs.pg_store.Servers.{view_of}
+use Rattle.law_listings.specs.pg_store.Seen.{view_of}
 use Rattle.law_listings.specs.pg_run.Run.{Step, Taking, next, run}
 use Rattle.law_listings.proofs.pg_run.Frame.{acts_is, next_is}
 use Rattle.law_listings.specs.Laws.{ListingsStandOn}

@@ -14,7 +14,7 @@ use Rattle.law_listings.specs.pg_register.Place.{root}
 use Rattle.law_listings.specs.pg_server.declared.input.Input.{Input}
 use Rattle.law_listings.specs.pg_server.declared.input.Input.TheVariants as input
 use Rattle.law_listings.specs.pg_store.declared.store.Store.{Store}
-use Rattle.law_listings.specs.pg_store.Servers.{view_of}
+use Rattle.law_listings.specs.pg_store.Seen.{view_of}
 use Rattle.law_listings.specs.pg_store.Store.{is_held}
 use Rattle.law_listings.specs.pg_run.pg_msg.declared.message.Message.{Message}
 use Rattle.law_listings.specs.pg_run.pg_msg.declared.message.Message.TheVariants as message

@@ -24,6 +24,7 @@ use Rattle.law_order.specs.pg_run.Took.{Take, entry_takes, flags_of, places_of, 
 use Rattle.law_order.specs.pg_run.Took.Take.{TookPlace}
 use Rattle.law_order.specs.pg_run.Took.Taker.{InDir, Itself}
 use Rattle.law_order.specs.pg_store.declared.store.Store.{Store}
+use Rattle.law_order.specs.pg_store.Seen.{server_of}
 use Rattle.law_order.specs.pg_store.Store.{is_held, replica_at, take_version}
 use Rattle.law_order.specs.pg_pieces.Done.{Done}
 use Rattle.law_order.proofs.theory_flood_pieces.Choices.{chosen}
@@ -45,7 +46,7 @@ more_came more came q = stamps_taken q more ++ came q
 -- what was brought
 pub record Arrives (s : ℕ) (a : Store) (us : List Born) (p : FileId → Policy)
     (N : FileId → Type 0) (came : Came) (d : Done) (more : List Take) : Type 0 where
-  pub server : d.store.names.server ≡ a.names.server
+  pub server : server_of d.store ≡ server_of a
   pub last : a.names.last ≤ d.store.names.last
   pub files : a.files ≤ d.store.files
   pub order : IsOrdered a.replicas → IsOrdered d.store.replicas

@@ -21,7 +21,7 @@ use Rattle.law_order.specs.pg_run.Carried.{gone_by}
 use Rattle.law_order.specs.pg_run.Journal.{Born, made_for}
 use Rattle.law_order.proofs.pg_run.Sends.{AnswersHave}
 use Rattle.law_order.specs.pg_store.declared.store.Store.{Store}
-use Rattle.law_order.specs.pg_store.Servers.{view_of}
+use Rattle.law_order.specs.pg_store.Seen.{view_of}
 use Rattle.law_order.specs.pg_store.Store.{is_before_clock_end}
 use Rattle.law_order.specs.pg_pieces.declared.accepting.EdgeUse.TheVariants as manner
 use Rattle.law_order.specs.pg_pieces.Accepting.{accept}

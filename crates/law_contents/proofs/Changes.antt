@@ -17,6 +17,7 @@ use Rattle.law_order.specs.pg_replica.declared.replica.Replica.{Replica}
 use Rattle.law_order.specs.pg_replica.Replicas.{ByFile, nothing, or_nothing}
 use Rattle.law_order.specs.pg_store.declared.store.Store.{Store}
 use Rattle.law_order.specs.pg_store.Births.{birth_of}
+use Rattle.law_order.specs.pg_store.Seen.{removed_of, server_of}
 use Rattle.law_order.specs.pg_store.Store.{content_of, is_full, replica_at}
 
 -- ---- what is looked at of a replica
@@ -132,13 +133,13 @@ none_end a b same file o f stamp n h = inl (same_noted a b same f stamp ∙ h)
 
 -- it is the same server, in the same view; its clock does not fall, nor does the number of its ids
 pub record Keeps (a b : Store) : Type 0 where
-  pub server : b.names.server ≡ a.names.server
+  pub server : server_of b ≡ server_of a
   pub last : a.names.last ≤ b.names.last
   pub files : a.files ≤ b.files
   pub order : IsOrdered a.replicas → IsOrdered b.replicas
   pub full : StaysFull a b
   pub each : (file : FileId) → core_at b file ≡ core_at a file
-  pub view : b.names.removed ≡ a.names.removed
+  pub view : removed_of b ≡ removed_of a
   pub notes : b.announced ≡ a.announced
 
 pub Keeps-refl : (a : Store) → Keeps a a
@@ -177,14 +178,14 @@ keeps_open {a} {b} k h file stamp n there covers =
 
 -- of the thing there is this now
 pub record Alters (a b : Store) (file : FileId) (o : Option Core) : Type 0 where
-  pub server : b.names.server ≡ a.names.server
+  pub server : server_of b ≡ server_of a
   pub last : a.names.last ≤ b.names.last
   pub files : a.files ≤ b.files
   pub order : IsOrdered a.replicas → IsOrdered b.replicas
   pub full : StaysFull a b
   pub here : core_at b file ≡ o
   pub others : (f : FileId) → is_same_file f file ≡ false → core_at b f ≡ core_at a f
-  pub view : b.names.removed ≡ a.names.removed
+  pub view : removed_of b ≡ removed_of a
   pub notes : NotesStay a b
   pub ends : EndCovered a b file o
   pub free : IsOpen a file (core_at a file) → IsOpen b file o

@@ -16,6 +16,7 @@ use Rattle.law_order.specs.pg_run.Histories.{ClockEndsFirst}
 use Rattle.law_order.specs.pg_run.Journal.{Born, made_for}
 use Rattle.law_order.specs.pg_run.Run.{run}
 use Rattle.law_order.specs.pg_store.declared.store.Store.{Store}
+use Rattle.law_order.specs.pg_store.Seen.{server_of}
 use Rattle.law_order.specs.pg_store.Store.{has_time, have_own_flag_at_end, replica_at}
 use Rattle.law_order.proofs.theory_flood_pieces.Found.{entries_known}
 use Rattle.law_contents.specs.Together.{StandOn}
@@ -65,7 +66,7 @@ clock_ends_first n small both events s least most =
     let a = (run n events).stores s in
     let k = run_sound n small both events in
     no_end (has_time a.names.last a.tags a.files a.births)
-    (have_own_end a.replicas a.names.server) (not (have_own_flag_at_end a.names))
+    (have_own_end a.replicas (server_of a)) (not (have_own_flag_at_end a.names))
     (λ t. versions_end_not k.made (k.order s) (k.stands s)
     (ltb-true a.names.last clock_end (and_parts (nat_lt a.names.last clock_end) _ t).0)
-    a.names.server)
+    (server_of a))

@@ -15,6 +15,7 @@ use Rattle.law_order.specs.pg_run.Took.{Take, stamps_taken, take_of}
 use Rattle.law_order.specs.pg_names.Names.{is_dir}
 use Rattle.law_order.specs.pg_store.declared.store.Store.{Store}
 use Rattle.law_order.specs.pg_store.Births.{birth_of}
+use Rattle.law_order.specs.pg_store.Seen.{server_of}
 use Rattle.law_order.specs.pg_store.Store.{is_before_clock_end}
 use Rattle.law_order.specs.pg_pieces.Done.{Done}
 use Rattle.law_order.specs.pg_checks.Answer.{Answer}
@@ -38,7 +39,7 @@ use Rattle.law_contents.proofs.Takes.{HasNone, both_none, stamps_after}
 pub record IsPassive (s : ℕ) (a : Store) (us : List Born) (p : FileId → Policy)
     (N : FileId → Type 0) (done : Effect) (takes : List Take) : Type 0 where
   pub none : versions_in done.out.made ≡ []
-  pub server : done.store.names.server ≡ a.names.server
+  pub server : server_of done.store ≡ server_of a
   pub last : a.names.last ≤ done.store.names.last
   pub files : a.files ≤ done.store.files
   pub order : IsOrdered a.replicas → IsOrdered done.store.replicas
@@ -55,7 +56,7 @@ pub record IsMaking (s : ℕ) (a : Store) (us : List Born) (p q : FileId → Pol
   pub made : born_in done.store done.out.made ≡ version ∷ []
   pub next : IsNextUpdate us version
   pub maker : version.made.stamp.server ≡ s
-  pub server : done.store.names.server ≡ a.names.server
+  pub server : server_of done.store ≡ server_of a
   pub last : a.names.last ≤ done.store.names.last
   pub files : a.files ≤ done.store.files
   pub order : IsOrdered a.replicas → IsOrdered done.store.replicas

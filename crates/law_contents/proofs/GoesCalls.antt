@@ -32,7 +32,7 @@ use Rattle.law_order.specs.pg_run.Journal.{Born}
 use Rattle.law_order.specs.pg_store.declared.store.Store.{Store}
 use Rattle.law_order.specs.pg_store.Beginning.{begin, patches_of, put_new}
 use Rattle.law_order.specs.pg_store.Births.{draw_birth, with_birth}
-use Rattle.law_order.specs.pg_store.Servers.{view_of}
+use Rattle.law_order.specs.pg_store.Seen.{removed_of, view_of}
 use Rattle.law_order.specs.pg_store.Store.{is_held, notes_behind, replica_at, write}
 use Rattle.law_order.specs.pg_pieces.Done.{Done, idle}
 use Rattle.law_order.specs.pg_pieces.Golds.{is_gold}
@@ -63,7 +63,7 @@ use Rattle.law_contents.proofs.Versions.{with_news_of, write_alters}
 
 -- the view and what is noted stay
 pub record StaysNoted (a b : Store) : Type 0 where
-  pub view : b.names.removed ≡ a.names.removed
+  pub view : removed_of b ≡ removed_of a
   pub notes : b.announced ≡ a.announced
   pub free : AreOpen a → AreOpen b
 
@@ -234,8 +234,8 @@ module _ {s : ℕ} {a : Store} {us : List Born} {p : FileId → Policy} {N : Fil
       let q = entered_keeps us p N a server W in
       inr (record {
         view =
-            let longer : length (a.names.removed ++ server ∷ []) ≡ length a.names.removed + 1 =
-            length-append a.names.removed (server ∷ []) in
+            let longer : length (removed_of a ++ server ∷ []) ≡ view_of a + 1 =
+            length-append (removed_of a) (server ∷ []) in
             let same = ap (λ (xs : List ℕ). length xs) q.view in omega arith;
         none = q.notes;
       })

@@ -21,6 +21,7 @@ use Rattle.law_order.specs.pg_msg.declared.message.Sent.{Sent}
 use Rattle.law_order.specs.pg_msg.declared.message.Wanted.{Wanted}
 use Rattle.law_order.specs.pg_run.Asking.{Asked, is_version, last_wanted, wanted_by}
 use Rattle.law_order.specs.pg_store.declared.store.Store.{Store}
+use Rattle.law_order.specs.pg_store.Seen.{removed_of}
 use Rattle.law_order.specs.pg_pieces.Done.{Done}
 use Rattle.law_order.specs.pg_pieces.Posting.{sent_to}
 use Rattle.law_order.specs.theory_bodies.Asked.{AskStep, Asking, asking_of}
@@ -33,7 +34,7 @@ use Rattle.law_contents.proofs.Wantless.{AreOther, last_both, last_same}
 -- ---- notes end only where they are covered
 
 pub record Goes (a b : Store) : Type 0 where
-  pub view : b.names.removed ≡ a.names.removed
+  pub view : removed_of b ≡ removed_of a
   pub stay : (f : FileId) (t : Stamp) (n : Announced) → noted_at b f t ≡ Some n → noted_at a f t ≡ Some n
   pub ends : (f : FileId) (t : Stamp) (n : Announced) → noted_at a f t ≡ Some n
       → (noted_at b f t ≡ Some n) ⊎ Covers (core_at b f) n
@@ -44,7 +45,7 @@ noted_same : (a b : Store) → b.announced ≡ a.announced → (f : FileId) (t :
 noted_same a b same f t = ap (λ (ns : NotesValue). note_at ns (key_at f t)) same
 
 -- nothing of it changes
-pub notes_go : {a b : Store} → b.names.removed ≡ a.names.removed → b.announced ≡ a.announced
+pub notes_go : {a b : Store} → removed_of b ≡ removed_of a → b.announced ≡ a.announced
     → (AreOpen a → AreOpen b) → Goes a b
 notes_go {a} {b} view same free = record {
   view = view;
@@ -83,7 +84,7 @@ go_keeps {a} {b} {c} g k = record {
 }
 
 -- behind what notes nothing else
-pub notes_then : {a b c : Store} → b.names.removed ≡ a.names.removed → b.announced ≡ a.announced
+pub notes_then : {a b c : Store} → removed_of b ≡ removed_of a → b.announced ≡ a.announced
     → (AreOpen a → AreOpen b) → Goes b c → Goes a c
 notes_then {a} {b} {c} view same free g = record {
   view = g.view ∙ view;

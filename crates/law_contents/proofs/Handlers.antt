@@ -23,6 +23,7 @@ use Rattle.law_order.specs.pg_store.declared.store.Store.{Store}
 use Rattle.law_order.specs.pg_store.Beginning.{with_intents}
 use Rattle.law_order.specs.pg_store.Births.{birth_of, fill_at, has_birth, is_pending, wish_at, with_wishes}
 use Rattle.law_order.specs.pg_store.Links.{is_clean, knows_later, unlink}
+use Rattle.law_order.specs.pg_store.Seen.{server_of}
 use Rattle.law_order.specs.pg_store.Servers.{next_target}
 use Rattle.law_order.specs.pg_store.Store.{is_full, is_held, replica_at, with_names}
 use Rattle.law_order.specs.pg_store.Wishes.{aim_wish}
@@ -134,8 +135,8 @@ module _ (us : List Born) (p : FileId → Policy) (N : FileId → Type 0) (a : S
       let edges = onward a ends.file work.from origin in
       let on = walked a ends origin birth hops word edges work in
       chosen IsQuiet (is_accepted a work.from manner.Needs ends)
-      (cond (origin == a.names.server) (idle a work) on) (accept a ends manner.Needs work)
-      (chosen IsQuiet (origin == a.names.server) (idle a work) on still
+      (cond (origin == server_of a) (idle a work) on) (accept a ends manner.Needs work)
+      (chosen IsQuiet (origin == server_of a) (idle a work) on still
       (walked_quiet ends origin birth hops word edges))
       (accept_quiet ends manner.Needs)
 
@@ -143,7 +144,7 @@ module _ (us : List Born) (p : FileId → Policy) (N : FileId → Type 0) (a : S
   walk_from_quiet : (word : ℕ) (o : Option FileId) → IsQuiet (idle a (walk_from a word work o))
   walk_from_quiet word None = still
   walk_from_quiet word (Some file) =
-      along_quiet file a.names.server (birth_of a file) most_hops
+      along_quiet file (server_of a) (birth_of a file) most_hops
       (word / length (edges_of a file))
       (slice_get (edges_of a file) (word % length (edges_of a file)))
 

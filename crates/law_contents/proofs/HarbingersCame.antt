@@ -16,7 +16,7 @@ use Rattle.law_order.specs.pg_msg.declared.message.Sent.{Sent}
 use Rattle.law_order.specs.pg_run.Journal.{Born, mail}
 use Rattle.law_order.specs.pg_run.Noted.{IsAnnounced, SourcesAnnounced}
 use Rattle.law_order.specs.pg_run.Run.{Taking, World, effect_step, idle_step, run, start, taking_in, world_after}
-use Rattle.law_order.proofs.pg_run.Frame.{Acts, HasCome, holds_in_runs}
+use Rattle.law_order.proofs.pg_run.Frame.{Acts, HasCome, holds_in_runs, no_server_comes}
 use Rattle.law_order.specs.pg_server.declared.input.Input.{Input}
 use Rattle.law_order.specs.pg_server.declared.input.Input.TheVariants as input
 use Rattle.law_order.specs.pg_server.Local.{effect}
@@ -158,7 +158,12 @@ module _ (n : ℕ) (small : n < 2 ^ 32) (stand : StandOn n) where
 
   known_run : (events : List Event) → Known (run n events)
   known_run events =
-      holds_in_runs n Known (record { first = known_start n; idle = known_idle; acts = acted }) events
+      holds_in_runs n Known (record {
+        first = known_start n;
+        idle = known_idle;
+        comes = λ past event server is k. absurd (no_server_comes event server is);
+        acts = acted;
+      }) events
 
 -- ---- the harbinger
 

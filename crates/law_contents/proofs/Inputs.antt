@@ -21,8 +21,9 @@ use Rattle.law_order.specs.pg_run.Journal.{Born}
 use Rattle.law_order.specs.pg_run.Run.{removed_then, took_after}
 use Rattle.law_order.specs.pg_run.Took.{Take, take_of, without_gone}
 use Rattle.law_order.specs.pg_store.declared.store.Store.{Store}
+use Rattle.law_order.specs.pg_store.Seen.{removed_of, server_of, view_of}
 use Rattle.law_order.specs.theory_bodies.Telling.Telling.{Silent}
-use Rattle.law_order.specs.pg_store.Servers.{is_live_other, view_of}
+use Rattle.law_order.specs.pg_store.Servers.{is_live_other}
 use Rattle.law_order.specs.pg_store.Store.{is_before_clock_end}
 use Rattle.law_order.specs.pg_pieces.Done.{Done, idle}
 use Rattle.law_order.specs.pg_cells.Sending.{is_any}
@@ -74,7 +75,7 @@ heard_sender a packet heard =
     && (is_live_other a packet.from && is_in_range packet.message)) heard).1).1 in
     some_sender packet.from
     (and_parts (nat_le 1 packet.from) (nat_le packet.from a.servers
-    && (not (packet.from == a.names.server) && not (is_removed a.names.removed packet.from)))
+    && (not (packet.from == server_of a) && not (is_removed (removed_of a) packet.from)))
     live.0).0
 
 module _ {s : ℕ} {a : Store} {us : List Born} {p : FileId → Policy} {N : FileId → Type 0}

@@ -25,6 +25,7 @@ use Rattle.law_order.specs.pg_run.Journal.{Born, made_for, made_of, versions_in}
 use Rattle.law_order.specs.pg_run.Took.{stamps_taken, take_of}
 use Rattle.law_order.specs.pg_names.Names.{is_dir}
 use Rattle.law_order.specs.pg_store.declared.store.Store.{Store}
+use Rattle.law_order.specs.pg_store.Seen.{server_of}
 use Rattle.law_order.specs.pg_store.Store.{content_of, is_before_clock_end, replica_at, write}
 use Rattle.law_order.proofs.pg_store.InTime.{births_in_time, last_in_time}
 use Rattle.law_order.specs.pg_pieces.Done.{idle}
@@ -56,7 +57,7 @@ pub record Makes (s : ℕ) (a : Store) (us : List Born) (p q : FileId → Policy
       ≡ cond (is_same_file version.made.file f) (version.made.stamp ∷ []) []
   pub next : IsNextUpdate us version
   pub maker : version.made.stamp.server ≡ s
-  pub server : r.store.names.server ≡ a.names.server
+  pub server : server_of r.store ≡ server_of a
   pub last : a.names.last ≤ r.store.names.last
   pub files : a.files ≤ r.store.files
   pub order : IsOrdered a.replicas → IsOrdered r.store.replicas

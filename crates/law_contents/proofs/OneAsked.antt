@@ -37,6 +37,7 @@ use Rattle.law_order.specs.pg_run.Journal.{Born, made_for, with_ancestors}
 use Rattle.law_order.proofs.pg_run.Sends.{accept_fine}
 use Rattle.law_order.proofs.pg_run.TransferWays.{beside_goes, changed_goes, delta_goes, harbinger_goes, heard_goes, others_hear, piece_goes, pieced_goes}
 use Rattle.law_order.specs.pg_store.declared.store.Store.{Store}
+use Rattle.law_order.specs.pg_store.Seen.{server_of}
 use Rattle.law_order.specs.pg_store.Store.{content_of, keep_delta, replica_of}
 use Rattle.law_order.specs.pg_pieces.declared.accepting.EdgeUse.{EdgeUse}
 use Rattle.law_order.specs.pg_pieces.declared.accepting.EdgeUse.TheVariants as manner
@@ -103,7 +104,7 @@ target_of x y e = let same : x ≡ y = cc in ap (λ (z : Asking). z.target) same
 source_of : (y z : Note) → Some y ≡ Some z → y.source ≡ z.source
 source_of y z e = let same : y ≡ z = cc in ap (λ (v : Note). v.source) same
 
-module _ (s : ℕ) (wants : Asked) (b : Store) (server : b.names.server ≡ s) (to : ℕ) (ends : Ends)
+module _ (s : ℕ) (wants : Asked) (b : Store) (server : server_of b ≡ s) (to : ℕ) (ends : Ends)
     (wanted : Wanted) (some : to ≢ 0)
     (one : (x : Asking) → wants ends.file wanted.stamp ≡ Some x → x.target ≡ to) where
   abbrev this : Asking
@@ -111,7 +112,7 @@ module _ (s : ℕ) (wants : Asked) (b : Store) (server : b.names.server ≡ s) (
 
   want_by : (f : FileId) (t : Stamp) (u : Asking) (v : Bool)
       → is_version f t ends.file wanted.stamp ≡ v → cond v (Some this) None ≡ Some u
-      → (b.names.server ≡ s) × (u.target ≢ 0)
+      → (server_of b ≡ s) × (u.target ≢ 0)
       × ((x : Asking) → wants f t ≡ Some x → u.target ≡ x.target)
   want_by f t u false e is = absurd (let z : None ≡ Some u = is in cc)
   want_by f t u true e is =

@@ -17,7 +17,7 @@ use Rattle.law_order.specs.pg_run.Bodies.{OneIsAskedAtATime}
 use Rattle.law_order.specs.pg_run.Journal.{Born}
 use Rattle.law_order.specs.pg_run.Run.{Step, Taking, World, effect_step, next, run, taking_in, world_after}
 use Rattle.law_order.proofs.pg_run.Event.{all_sent, asks_sent, cells_sent, end_of}
-use Rattle.law_order.proofs.pg_run.Frame.{Acts, IsFramed, each_after, framed, holds_in_runs}
+use Rattle.law_order.proofs.pg_run.Frame.{Acts, IsFramed, each_after, framed, holds_in_runs, no_server_comes}
 use Rattle.law_order.proofs.pg_run.LastWalks.{lasts_have}
 use Rattle.law_order.specs.pg_store.declared.store.Store.{Store}
 use Rattle.law_order.specs.pg_pieces.Done.{idle}
@@ -157,6 +157,7 @@ module _ (n : ℕ) (small : n < 2 ^ 32) (stand : StandOn n) where
   targets_run events = holds_in_runs n AllTargets (record {
     first = λ s f t x e. absurd (let z : None ≡ Some x = e in cc);
     idle = λ w e cause h. h;
+    comes = λ past event server is k. absurd (no_server_comes event server is);
     acts = targets_then;
   }) events
 

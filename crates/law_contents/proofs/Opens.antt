@@ -27,7 +27,7 @@ use Rattle.law_order.specs.pg_msg.declared.work.Work.{Work}
 use Rattle.law_order.specs.pg_msg.Work.{new_work}
 use Rattle.law_order.specs.pg_run.Journal.{Born}
 use Rattle.law_order.specs.pg_run.Run.{Taking, World, effect_step, run, taking_in, world_after}
-use Rattle.law_order.proofs.pg_run.Frame.{Acts, holds_in_runs}
+use Rattle.law_order.proofs.pg_run.Frame.{Acts, holds_in_runs, no_server_comes}
 use Rattle.law_order.proofs.pg_run.TransferWays.{beside_goes, changed_goes, delta_goes, harbinger_goes, heard_goes, later_goes, piece_goes, pieced_goes}
 use Rattle.law_order.specs.pg_store.declared.store.Store.{Store}
 use Rattle.law_order.specs.pg_store.Beginning.{let_go}
@@ -285,5 +285,6 @@ module _ (n : ℕ) (small : n < 2 ^ 32) (stand : StandOn n) where
   opens_run events = holds_in_runs n AllOpen (record {
     first = λ s. none_open (new_store n s) refl;
     idle = λ w e cause h. h;
+    comes = λ past event server is k. absurd (no_server_comes event server is);
     acts = acted;
   }) events

@@ -27,6 +27,7 @@ use Rattle.law_order.specs.pg_store.declared.wishes.Wish.{Wish}
 use Rattle.law_order.specs.pg_store.Beginning.{begin, patches_of, put_new, take_patch, take_patches, take_told, take_told_in, with_intents}
 use Rattle.law_order.specs.pg_store.Births.{with_birth, with_wish, with_wishes}
 use Rattle.law_order.specs.pg_store.Links.{is_linked, is_new_link, keys, link, put_link, unlink}
+use Rattle.law_order.specs.pg_store.Seen.{removed_of, server_of}
 use Rattle.law_order.specs.pg_store.Store.{acknowledge, is_full, is_newer_entry, is_newer_flag, is_newer_place, put_entry, put_flag, put_place, replica_at, take_entry, take_flag, take_place, touch, with_names}
 use Rattle.law_order.specs.pg_store.Wishes.{WishesValue}
 use Rattle.law_order.specs.pg_cells.Settling.{touch_all}
@@ -74,8 +75,8 @@ module _ (a : Store) where
   -- ---- names
 
   -- other names of the same server, in the same view
-  pub names_keep : (names : NamesValue) → names.server ≡ a.names.server
-      → names.removed ≡ a.names.removed → a.names.last ≤ names.last
+  pub names_keep : (names : NamesValue) → names.server ≡ server_of a
+      → names.removed ≡ removed_of a → a.names.last ≤ names.last
       → StaysFull a (with_names a names) → Keeps a (with_names a names)
   names_keep names server removed last full =
       record {

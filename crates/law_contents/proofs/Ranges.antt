@@ -16,6 +16,7 @@ use Rattle.law_order.proofs.pg_delta.Fronts.{length_is}
 use Rattle.law_order.specs.pg_call.declared.refusal.Refusal.TheVariants.{ManyActors, TooLong}
 use Rattle.law_order.specs.pg_replica.Replica.{has_many_actors, is_too_long}
 use Rattle.law_order.specs.pg_store.declared.store.Store.{Store}
+use Rattle.law_order.specs.pg_store.Seen.{server_of}
 use Rattle.law_order.specs.pg_store.Store.{content_of, replica_of}
 use Rattle.law_order.specs.pg_checks.Answer.{unless}
 use Rattle.law_order.specs.pg_calls.Bodies.{when_fit}
@@ -75,7 +76,7 @@ module _ (store : Store) (ranges : RangesValue) (f g : FileId) (h : when_fit sto
     fits : is_too_long (replica_of store f) ranges ≡ false
     fits =
         let b = behind (unless (is_too_long (replica_of store f) ranges) TooLong f)
-        (λ fit. unless (has_many_actors (replica_of store fit) store.names.server) ManyActors fit) g h
+        (λ fit. unless (has_many_actors (replica_of store fit) (server_of store)) ManyActors fit) g h
         in
         (unless_ok (is_too_long (replica_of store f) ranges) TooLong f b.0 b.1).0
 

@@ -5,7 +5,7 @@ use Rattle.law_order.specs.pg_event.declared.event.Event.{Event}
 use Rattle.law_order.specs.pg_msg.declared.update.MadeVersion.{MadeVersion}
 use Rattle.law_order.specs.pg_run.Histories.{HistoryIsWhatWasMade}
 use Rattle.law_order.specs.pg_run.Journal.{Born, born_at, made_versions, versions_in}
-use Rattle.law_order.proofs.pg_run.Frame.{holds_in_runs}
+use Rattle.law_order.proofs.pg_run.Frame.{holds_in_runs, no_server_comes}
 use Rattle.law_order.specs.pg_run.Run.{run, World, effect_step, world_after}
 use Rattle.law_order.specs.pg_server.declared.input.Input.{Input}
 use Rattle.law_order.specs.pg_server.Local.{effect}
@@ -35,5 +35,6 @@ pub history_is_what_was_made : (n : ℕ) → HistoryIsWhatWasMade n
 history_is_what_was_made n events = holds_in_runs n IsRecorded (record {
   first = refl;
   idle = λ w e cause k. k;
+  comes = λ past event server is k. absurd (no_server_comes event server is);
   acts = λ some e t taken acts k. acted (run n some) e t.server t.asked k;
 }) events

@@ -21,7 +21,7 @@ use Rattle.law_order.specs.pg_run.Laws.{AtEach}
 use Rattle.law_order.specs.pg_run.Run.{Step, Taking, World, effect_step, idle_step, is_due, is_live, run, start, taking_in, taking_message, took_after, world_after}
 use Rattle.law_order.specs.pg_run.State.{is_made, policy_asked, policy_named, policy_by, policy_made}
 use Rattle.law_order.specs.pg_run.Took.{Take}
-use Rattle.law_order.proofs.pg_run.Frame.{Acts, HasCome, holds_in_runs, next_is, run_more}
+use Rattle.law_order.proofs.pg_run.Frame.{Acts, HasCome, holds_in_runs, next_is, no_server_comes, run_more}
 use Rattle.law_order.specs.pg_server.declared.input.Input.{Input}
 use Rattle.law_order.specs.pg_server.declared.input.Input.TheVariants as input
 use Rattle.law_order.specs.pg_server.Local.{Effect, closed, done_of, effect, finished}
@@ -43,7 +43,7 @@ use Rattle.law_contents.proofs.Start.{sound_start}
 use Rattle.law_order.specs.pg_calls.Forgetting.{is_wanted}
 use Rattle.law_order.specs.pg_store.Store.{is_held}
 use Rattle.law_contents.proofs.Wanted.{wanted_run}
-use Rattle.law_contents.proofs.Worlds.{IsNamed, Sound, making_sound, passive_sound, server_of}
+use Rattle.law_contents.proofs.Worlds.{IsNamed, Sound, making_sound, passive_sound, server_stands}
 
 -- the policy that an input names, if it makes a file
 abbrev policy_input : Input → Option Policy
@@ -102,7 +102,7 @@ module _ (n : ℕ) (small : n < 2 ^ 32) (w : World)
     -- one server acts
     pub server_now : IsServer s (w.stores s) us p N (came_of (w.took s))
     server_now =
-        server_of k s (omega (arith, small, most)) (paired (w.stores s) (both s least most)) (wanted s least most)
+        server_stands k s (omega (arith, small, most)) (paired (w.stores s) (both s least most)) (wanted s least most)
 
     abbrev done : Effect
     done = effect (w.stores s) asked
@@ -242,4 +242,9 @@ module _ (n : ℕ) (small : n < 2 ^ 32) (stand : StandOn n) where
 
   -- AFTER ANY EVENTS
   pub run_sound : (events : List Event) → IsSound (run n events)
-  run_sound events = holds_in_runs n IsSound (record { first = sound_start n; idle = idle_sound; acts = acted }) events
+  run_sound events = holds_in_runs n IsSound (record {
+    first = sound_start n;
+    idle = idle_sound;
+    comes = λ past event server is k. absurd (no_server_comes event server is);
+    acts = acted;
+  }) events

@@ -22,6 +22,7 @@ use Rattle.law_order.specs.pg_run.Journal.{Born, made_for, made_of}
 use Rattle.law_order.specs.pg_run.Took.{Take, stamps_taken}
 use Rattle.law_order.specs.pg_store.declared.store.Store.{Store}
 use Rattle.law_order.specs.pg_store.Births.{is_pending}
+use Rattle.law_order.specs.pg_store.Seen.{server_of}
 use Rattle.law_order.specs.pg_store.Store.{is_full, is_held}
 use Rattle.law_order.specs.pg_store.Together.{BirthsMove}
 use Rattle.law_order.specs.pg_names.Names.{is_dir}
@@ -328,7 +329,7 @@ IsNamedBy s b N file = N file ⊎ ((file.server ≡ s) × (file.number ≤ b.fil
 pub record IsServer (s : ℕ) (a : Store) (us : List Born) (p : FileId → Policy)
     (N : FileId → Type 0) (came : Came) : Type 0 where
   pub few : s < 2 ^ 32
-  pub server : a.names.server ≡ s
+  pub server : server_of a ≡ s
   pub paired : IsPaired a
   pub stands : Stands s a us p came
   pub made : AreMade us

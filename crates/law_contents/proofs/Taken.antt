@@ -28,6 +28,7 @@ use Rattle.law_order.specs.pg_run.Journal.{Born, made_for, versions_in, with_anc
 use Rattle.law_order.specs.pg_run.Took.{Take, stamps_taken, take_of}
 use Rattle.law_order.specs.pg_run.Took.Take.{TookVersion}
 use Rattle.law_order.specs.pg_store.declared.store.Store.{Store}
+use Rattle.law_order.specs.pg_store.Seen.{server_of}
 use Rattle.law_order.specs.pg_store.Store.{is_new_version, keep_delta, replica_at, take_version}
 use Rattle.law_order.specs.pg_pieces.Posting.{reply}
 use Rattle.law_order.specs.pg_pieces.Taking.{with_news}
@@ -170,7 +171,7 @@ module _ {s : ℕ} {b : Store} {us : List Born} {p : FileId → Policy} {came : 
 
 -- what is not touched by what comes
 pub record IsFrame (a b : Store) (N : FileId → Type 0) : Type 0 where
-  pub server : b.names.server ≡ a.names.server
+  pub server : server_of b ≡ server_of a
   pub last : a.names.last ≤ b.names.last
   pub files : a.files ≤ b.files
   pub order : IsOrdered a.replicas → IsOrdered b.replicas

@@ -16,6 +16,7 @@ use Rattle.law_order.specs.pg_run.Took.{Take}
 use Rattle.law_order.specs.pg_server.Local.{Effect}
 use Rattle.law_order.specs.pg_names.Names.{is_dir}
 use Rattle.law_order.specs.pg_store.declared.store.Store.{Store}
+use Rattle.law_order.specs.pg_store.Seen.{server_of}
 use Rattle.law_order.specs.pg_store.Store.{is_held}
 use Rattle.law_order.specs.pg_store.Together.{BirthsMove}
 use Rattle.law_order.proofs.pg_store.Over.{moves_itself}
@@ -46,7 +47,7 @@ IsNamed stores file = file.number ≤ (stores file.server).files
 -- was given out. What has none has no policy yet
 pub record Sound (stores : ℕ → Store) (us : List Born) (p : FileId → Policy)
     (took : ℕ → List Take) (wants : ℕ → Asked) (mail : List Sent) : Type 0 where
-  pub server : (s : ℕ) → (stores s).names.server ≡ s
+  pub server : (s : ℕ) → server_of (stores s) ≡ s
   pub order : (s : ℕ) → IsOrdered (stores s).replicas
   pub made : AreMade us
   pub stands : (s : ℕ) → Stands s (stores s) us p (came_of (took s))
@@ -120,10 +121,10 @@ module _ {stores : ℕ → Store} {us : List Born} {p : FileId → Policy} {took
   }
 
   module _ (s : ℕ) where
-    pub server_of : s < 2 ^ 32 → IsPaired (stores s)
+    pub server_stands : s < 2 ^ 32 → IsPaired (stores s)
         → ((file : FileId) → is_wanted (stores s) file ≡ true → is_held (stores s) file ≡ false → N file)
         → IsServer s (stores s) us p N (came_of (took s))
-    server_of few paired wanted = record {
+    server_stands few paired wanted = record {
       few = few;
       server = k.server s;
       paired = paired;
@@ -145,14 +146,14 @@ module _ {stores : ℕ → Store} {us : List Born} {p : FileId → Policy} {took
 
     -- ---- what the server that acted leaves
 
-    module _ (b : Store) (takes : List Take) (server : b.names.server ≡ (stores s).names.server)
+    module _ (b : Store) (takes : List Take) (server : server_of b ≡ server_of (stores s))
         (last : (stores s).names.last ≤ b.names.last) (files : (stores s).files ≤ b.files) where
       abbrev behind : ℕ → Store
       behind = after stores s b
 
-      later_server : (t : ℕ) → (behind t).names.server ≡ t
+      later_server : (t : ℕ) → server_of (behind t) ≡ t
       later_server =
-          by_server (λ t c ts. c.names.server ≡ t) stores took s b takes (server ∙ k.server s)
+          by_server (λ t c ts. server_of c ≡ t) stores took s b takes (server ∙ k.server s)
           (λ t other. k.server t)
 
       later_last : (t : ℕ) → (stores t).names.last ≤ (behind t).names.last

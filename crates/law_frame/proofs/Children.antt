@@ -20,6 +20,7 @@ use Rattle.pg_run.specs.pg_register.declared.flag.Flag.{Flag}
 use Rattle.pg_run.specs.pg_store.declared.store.Store.{Store}
 use Rattle.pg_run.specs.pg_store.Beginning.{with_intents}
 use Rattle.pg_run.specs.pg_store.Links.{knows_later}
+use Rattle.pg_run.specs.pg_store.Seen.{server_of}
 use Rattle.pg_run.specs.pg_store.Servers.{next_target}
 use Rattle.pg_run.specs.pg_store.Store.{is_held}
 use Rattle.pg_run.specs.pg_pieces.declared.accepting.EdgeUse.TheVariants as manner
@@ -160,7 +161,7 @@ module _ (a : Store) (w : Work) (I : Done → Type 0) where
     pub walk_keeps : J (walk a ends origin birth hops word w)
     walk_keeps =
         let m = message.Walk ends origin birth hops word in
-        let mine = origin == a.names.server in
+        let mine = origin == server_of a in
         let on = walked a ends origin birth hops word On w in
         let next = word % length On in
         let to = link_peer a ends.file origin birth w in

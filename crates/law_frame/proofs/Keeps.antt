@@ -33,6 +33,7 @@ use Rattle.pg_run.specs.pg_store.declared.store.Store.{Store}
 use Rattle.pg_run.specs.pg_store.Beginning.{let_go, with_intents}
 use Rattle.pg_run.specs.pg_store.Births.{birth_of, has_birth, is_pending, with_wishes}
 use Rattle.pg_run.specs.pg_store.Links.{unlink}
+use Rattle.pg_run.specs.pg_store.Seen.{server_of}
 use Rattle.pg_run.specs.pg_store.Servers.{next_target}
 use Rattle.pg_run.specs.pg_store.Store.{acknowledge, is_full, is_held, keep_delta, replica_at, replica_of, with_names}
 use Rattle.pg_run.specs.pg_store.Wishes.{aim_wish}
@@ -208,7 +209,7 @@ pub record Keeps (a : Store) (w : Work) (m : Message) (I : Done → Type 0) : Ty
       → d.work.from ≡ w.from → I d → I (link_peer d.store file d.work.from birth d.work)
   pub meets : (d : Done) (ends : Ends) (origin birth hops word : ℕ)
       → m ≡ message.Walk ends origin birth hops word
-      → (is_accepted a w.from manner.Needs ends ≡ true) × ((origin == a.names.server) ≡ false)
+      → (is_accepted a w.from manner.Needs ends ≡ true) × ((origin == server_of a) ≡ false)
       → I d → I (link_peer d.store ends.file origin birth d.work)
   pub unlinks : (d : Done) (file : FileId) (birth : ℕ) → unlinking m ≡ Some (file, birth)
       → d.work.from ≡ w.from → I d → I (idle (unlink d.store file d.work.from birth) d.work)

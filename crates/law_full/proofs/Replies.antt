@@ -17,6 +17,7 @@ use Rattle.pg_run.specs.pg_replica.declared.replica.Replica.{Replica}
 use Rattle.pg_run.specs.pg_store.declared.store.Store.{Store}
 use Rattle.pg_run.specs.pg_store.Births.{birth_of}
 use Rattle.pg_run.specs.pg_store.Links.{is_clean, is_new_link, knows_later}
+use Rattle.pg_run.specs.pg_store.Seen.{server_of}
 use Rattle.pg_run.specs.pg_store.Store.{is_full, replica_at}
 use Rattle.pg_run.specs.pg_pieces.Accepting.{link_peer}
 use Rattle.pg_run.specs.pg_pieces.Done.{Done, idle}
@@ -74,7 +75,7 @@ module _ (Q : Work → Type 0) (k : IsClosed Q) where
   from_sends a word w None h = h
   from_sends a word w (Some f) h =
       let edges = edges_of a f in
-      along_sends a f a.names.server (birth_of a f) most_hops (word / length edges) w (slice_get edges (word % length edges)) h
+      along_sends a f (server_of a) (birth_of a f) most_hops (word / length edges) w (slice_get edges (word % length edges)) h
 
   pub tick_sends : (a : Store) (word : ℕ) (w : Work) → Q w → Q (walk_of_tick a word w)
   tick_sends a word w h =

@@ -26,6 +26,7 @@ use Rattle.law_contents.specs.pg_store.declared.store.Store.{Store}
 use Rattle.law_contents.specs.pg_store.declared.wishes.Wish.{Wish}
 use Rattle.law_contents.specs.pg_store.Beginning.{patches_of, put_new}
 use Rattle.law_contents.specs.pg_store.Births.{birth_of, draw_birth, with_birth, with_wish}
+use Rattle.law_contents.specs.pg_store.Seen.{server_of}
 use Rattle.law_contents.specs.pg_store.Store.{is_full, is_held, write}
 use Rattle.law_contents.specs.pg_store.Together.{AreTogether}
 use Rattle.law_contents.specs.pg_pieces.Done.{Done, idle}
@@ -230,7 +231,7 @@ module _ (Q : FileId → Flag → Type 0) (s : ℕ) (a : Store) (together : AreT
 
   -- ---- a gold replica becomes bronze
 
-  lowered_by : (f : FileId) (o : Option Flag) → flag_of (flags_at a.names f) a.names.server ≡ o
+  lowered_by : (f : FileId) (o : Option Flag) → flag_of (flags_at a.names f) (server_of a) ≡ o
       → is_raised_with o (birth_of a f) ≡ true → IsFine Q s (lower_flag a f w)
   lowered_by f None there gold = absurd (let z : false ≡ true = gold in cc)
   lowered_by f (Some g) there gold =
@@ -243,7 +244,7 @@ module _ (Q : FileId → Flag → Type 0) (s : ℕ) (a : Store) (together : AreT
   lowered_fine : (f : FileId) → IsFine Q s (lowered a f w)
   lowered_fine f =
       decided (IsFine Q s) (is_gold a f) (lower_flag a f w) (idle a w)
-      (lowered_by f (flag_of (flags_at a.names f) a.names.server) refl) (λ bronze. k)
+      (lowered_by f (flag_of (flags_at a.names f) (server_of a)) refl) (λ bronze. k)
 
   -- ---- leave is asked for
 

@@ -13,10 +13,11 @@ use Rattle.law_contents.specs.pg_names.Names.{own_at}
 use Rattle.law_contents.specs.pg_register.declared.flag.Flag.{Flag}
 use Rattle.law_contents.specs.pg_register.Flag.{flag_of}
 use Rattle.law_contents.specs.pg_store.declared.store.Store.{Store}
+use Rattle.law_contents.specs.pg_store.Seen.{server_of}
 use Rattle.law_contents.specs.pg_store.Together.{birth_at}
 use Rattle.law_contents.specs.pg_pieces.Done.{Done, idle}
 use Rattle.law_contents.specs.pg_pieces.Making.{make_flag, own_next}
-use Rattle.law_contents.proofs.theory_flood_pieces.Flags.{server_of}
+use Rattle.law_contents.proofs.theory_flood_pieces.Flags.{flag_server}
 use Rattle.law_births.specs.Flags.{AnyBye, SaysStore}
 use Rattle.law_births.proofs.Joined.{found_says}
 use Rattle.law_births.proofs.StoreSays.{own_says, say_flag}
@@ -117,7 +118,7 @@ module _ (Q : FileId → Flag → Type 0) (s : ℕ) where
       → flag_of (flags_at b.names f) s ≡ Some y → Knows us f y × (y.server ≡ s)
   found_is us b k f y there = (
     found_says (Knows us f) (flags_at b.names f) s y (own_says (Knows us) AnyBye s b f k) there,
-    server_of (flags_at b.names f) s y there,
+    flag_server (flags_at b.names f) s y there,
   )
 
   -- the replicas of which flags were made are held on
@@ -195,7 +196,7 @@ module _ (Q : FileId → Flag → Type 0) (s : ℕ) where
     abbrev Then : Done
     Then = make_flag b f flag w
 
-    server : b.names.server ≡ s
+    server : server_of b ≡ s
     server = k.store.names.server
 
     born_of : (x : Flag) → Stands s b f x → (x.birth ≡ n) ⊎ (x.birth < n)

@@ -19,6 +19,7 @@ use Rattle.law_contents.specs.pg_replica.declared.replica.Replica.{Replica}
 use Rattle.law_contents.specs.pg_replica.Replicas.{or_nothing}
 use Rattle.law_contents.specs.pg_store.declared.store.Store.{Store}
 use Rattle.law_contents.specs.pg_store.Births.{birth_of}
+use Rattle.law_contents.specs.pg_store.Seen.{removed_of, server_of}
 use Rattle.law_contents.specs.pg_store.Store.{is_held}
 use Rattle.law_contents.specs.pg_run.Golds.{HasReplica, IsGold, IsLiveGold, NamesAGold, NamesGolds, NamesOne, ReplicasNameGolds, Seeks}
 use Rattle.law_contents.specs.pg_run.Intending.{IntentionsAreInOrder, SeeksStand}
@@ -34,10 +35,10 @@ contained xs x k = (k.0, k.1.0, sym k.1.1)
 
 module _ (a : Store) (sorted : AreByServer a.names) (stand : SeeksStand a) (file : FileId) (x : InodeValue) (r : Replica) (h : HasReplica a file x r) where
   abbrev Mine : ℕ
-  Mine = a.names.server
+  Mine = server_of a
 
   abbrev Removed : List ℕ
-  Removed = a.names.removed
+  Removed = removed_of a
 
   abbrev Flags : List Flag
   Flags = x.own.flags

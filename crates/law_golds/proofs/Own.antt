@@ -15,6 +15,7 @@ use Rattle.law_contents.specs.pg_register.Flag.{flag_of, is_new, newest, number_
 use Rattle.law_contents.proofs.pg_register.ByServer.{flag_of-join_flag}
 use Rattle.law_contents.specs.pg_store.declared.store.Store.{Store}
 use Rattle.law_contents.specs.pg_store.Births.{birth_of}
+use Rattle.law_contents.specs.pg_store.Seen.{server_of}
 use Rattle.law_contents.specs.pg_store.Store.{is_newer_flag, put_flag, take_flag}
 use Rattle.law_contents.specs.pg_store.Together.{birth_at}
 use Rattle.law_contents.specs.pg_pieces.Making.{own_next}
@@ -144,7 +145,7 @@ number_next : (x : Flag) (birth : ℕ) → x.birth ≡ birth → number_with (So
 number_next x birth same = ap (λ t. cond t x.number 0) (eq-eqb x.birth birth same)
 
 -- server s makes its next flag of a thing that it holds: it is later than all that are known
-module _ (s : ℕ) (b : Store) (f : FileId) (raised : Bool) (server : b.names.server ≡ s) (n : ℕ)
+module _ (s : ℕ) (b : Store) (f : FileId) (raised : Bool) (server : server_of b ≡ s) (n : ℕ)
     (here : birth_at b f ≡ Some n) (mine : Attributes) (held : own_at b.names f ≡ Some mine)
     (born : (x : Flag) → flag_of (flags_at b.names f) s ≡ Some x → (x.birth ≡ n) ⊎ (x.birth < n)) where
   abbrev pub Next : Flag
@@ -164,7 +165,7 @@ module _ (s : ℕ) (b : Store) (f : FileId) (raised : Bool) (server : b.names.se
       → (x.birth ≡ Next.birth) × (Next.number ≡ x.number + 1)
   next_number x there is =
       let same : x.birth ≡ Next.birth = is ∙ sym next_birth in
-      let mine_is : flag_of (flags_at b.names f) b.names.server ≡ Some x =
+      let mine_is : flag_of (flags_at b.names f) (server_of b) ≡ Some x =
       ap (flag_of (flags_at b.names f)) server ∙ there in (
         same,
         ap (λ (o : Option Flag). number_with o (birth_of b f) + 1) mine_is

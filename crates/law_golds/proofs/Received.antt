@@ -35,6 +35,7 @@ use Rattle.law_contents.specs.pg_store.Links.{unlink}
 use Rattle.law_contents.specs.pg_store.Store.{acknowledge, keep_delta, with_names}
 use Rattle.law_contents.specs.pg_store.Wishes.{aim_wish}
 use Rattle.law_contents.specs.pg_store.declared.store.Store.{Store}
+use Rattle.law_contents.specs.pg_store.Seen.{server_of}
 use Rattle.law_frame.proofs.Keeps.{Answers, Keeps, raising}
 use Rattle.law_frame.proofs.Received.{receive_keeps}
 use Rattle.law_golds.proofs.Says.{Says, said_entry, said_entry_cell, said_flag, said_last, said_link, said_on, said_place, said_post, said_version}
@@ -60,7 +61,7 @@ module _ (Q : FileId → Flag → Type 0) (s : ℕ) (us : List Update) where
   said_from a word w None k = k
   said_from a word w (Some f) k =
       let es = edges_of a f in
-      said_along a f a.names.server (birth_of a f) most_hops (word / length es) w
+      said_along a f (server_of a) (birth_of a f) most_hops (word / length es) w
       (slice_get es (word % length es)) k
 
   -- the walk of a tick

@@ -14,6 +14,7 @@ use Rattle.law_contents.specs.pg_replica.declared.replica.Replica.{Replica}
 use Rattle.law_contents.specs.pg_replica.Replicas.{or_nothing}
 use Rattle.law_contents.specs.pg_store.declared.store.Store.{Store}
 use Rattle.law_contents.specs.pg_store.Births.{birth_of}
+use Rattle.law_contents.specs.pg_store.Seen.{removed_of, server_of}
 use Rattle.law_contents.specs.pg_store.Store.{replica_at}
 use Rattle.law_contents.specs.pg_pieces.Golds.{is_goldless, is_goldless_held, is_of_later, sees_gold}
 use Rattle.law_contents.specs.theory_flood_pieces.Whole.{IsWhole}
@@ -32,7 +33,7 @@ pub goldless_alike : (a b : Store) → b.names ≡ a.names → ((file : FileId) 
     → NoneGoldless a → NoneGoldless b
 goldless_alike a b names births none file =
     ap (λ n. is_goldless_held n.removed n.server (birth_of b file) (known n file)) names
-    ∙ ap (λ k. is_goldless_held a.names.removed a.names.server k (known a.names file)) (births file) ∙ none file
+    ∙ ap (λ k. is_goldless_held (removed_of a) (server_of a) k (known a.names file)) (births file) ∙ none file
 
 sees_by : (sees later : Bool) → later ≡ false → (not sees && not later) ≡ false → sees ≡ true
 sees_by true later none h = refl
@@ -58,9 +59,9 @@ module _ (n : ℕ) (births : BirthsAreKnown n) (alone : BirthsAreAlone n) (event
     birth_is = ap (λ (o : Option Replica). (or_nothing o).birth) replica.1
 
     -- the server's own flag has no later birth than its replica
-    own_birth : (f : Flag) → flag_of x.own.flags A.names.server ≡ Some f → f.birth ≤ birth_of A file
+    own_birth : (f : Flag) → flag_of x.own.flags (server_of A) ≡ Some f → f.birth ≤ birth_of A file
     own_birth f is =
-        let k = flag_found x.own.flags A.names.server f is in
+        let k = flag_found x.own.flags (server_of A) f is in
         let c = among_contained x.own.flags f k.0 in
         let among : IsAmong x.own.flags f = (c.0, (c.1, sym c.2)) in
         let given = (births events).flags s least most file x.own f (ap own_of held) among in
@@ -69,22 +70,22 @@ module _ (n : ℕ) (births : BirthsAreKnown n) (alone : BirthsAreAlone n) (event
         subst (λ (m : ℕ). f.birth ≤ m) (sym birth_is)
         ((alone events s least most file).greatest f.birth replica.0.birth (subst Given mine given) (inl (replica.0, replica.1, refl)))
 
-    later_by : (o : Option Flag) → flag_of x.own.flags A.names.server ≡ o → is_of_later (birth_of A file) o ≡ false
+    later_by : (o : Option Flag) → flag_of x.own.flags (server_of A) ≡ o → is_of_later (birth_of A file) o ≡ false
     later_by None is = refl
     later_by (Some f) is = not_later (birth_of A file) f.birth (own_birth f is)
 
-    sees : x.full ≡ true → sees_gold A.names.removed x.own.flags ≡ true
+    sees : x.full ≡ true → sees_gold (removed_of A) x.own.flags ≡ true
     sees full =
-        let own = flag_of x.own.flags A.names.server in
+        let own = flag_of x.own.flags (server_of A) in
         let later = is_of_later (birth_of A file) own in
-        let gold = sees_gold A.names.removed x.own.flags in
+        let gold = sees_gold (removed_of A) x.own.flags in
         sees_by gold later (later_by own refl)
         (ap (λ (t : Bool). t && (not gold && not later)) (sym full)
-        ∙ ap (is_goldless_held A.names.removed A.names.server (birth_of A file)) (sym held) ∙ none file)
+        ∙ ap (is_goldless_held (removed_of A) (server_of A) (birth_of A file)) (sym held) ∙ none file)
 
     seen : x.full ≡ true → (flag : Flag) × Contains x.own.flags flag × IsLiveGold A flag
     seen full =
-        let f = any_found (is_live A.names.removed) x.own.flags (sees full) in
+        let f = any_found (is_live (removed_of A)) x.own.flags (sees full) in
         (f.0, among_contained x.own.flags f.0 f.1, f.2)
 
   pub full_see_gold : FullSeeGold A

@@ -25,6 +25,7 @@ use Rattle.law_contents.specs.pg_server.declared.input.Input.TheVariants as inpu
 use Rattle.law_contents.specs.pg_server.Local.{effect, first_effect, intended, receive, settled, takes_effect, ticked}
 use Rattle.law_contents.specs.pg_store.declared.store.Store.{Store}
 use Rattle.law_contents.specs.pg_store.Births.{birth_of}
+use Rattle.law_contents.specs.pg_store.Seen.{removed_of, server_of}
 use Rattle.law_contents.specs.pg_store.Start.{first_flag, first_flags, root_own}
 use Rattle.law_contents.specs.pg_store.Store.{is_before_clock_end, new_store, with_names}
 use Rattle.law_contents.specs.pg_pieces.Done.{Done, idle}
@@ -41,7 +42,7 @@ use Rattle.law_contents.specs.pg_run.Views.{ViewsArePrefixes}
 use Rattle.law_contents.specs.pg_run.Run.{Taking, World, effect_step, run, start, taking_in, world_after}
 use Rattle.law_contents.proofs.pg_run.Event.{store_is}
 use Rattle.law_contents.proofs.pg_run.Found.{flag_found}
-use Rattle.law_contents.proofs.pg_run.Frame.{Acts, each_after, holds_in_runs, next_is, run_more}
+use Rattle.law_contents.proofs.pg_run.Frame.{Acts, each_after, holds_in_runs, next_is, no_server_comes, run_more}
 use Rattle.law_contents.proofs.law_order.FlagsSay.{all_join}
 use Rattle.law_contents.proofs.law_order.Runs.{first_ordered, first_runs, sound_run}
 use Rattle.law_golds.proofs.Seen.{NoneGoldless, full_see_gold, goldless_alike}
@@ -94,7 +95,7 @@ births_by a b same file = ap (λ (rs : ByFile). (or_nothing (replica_in rs file)
 
 -- what is known of removals behind the end of an event was known before the house rules
 settled_removed : (d : Done) → IsOfDirs d.store.names → AreByServer d.store.names → IsLast d.store.names → AreOrdered d.store.names
-    → (settled d).store.names.removed ≡ d.store.names.removed
+    → removed_of (settled d).store ≡ removed_of d.store
 settled_removed d of_dirs sorted last ordered =
     let st = state_of d.store.names d.work in
     let end = house d.work.now st in
@@ -103,7 +104,7 @@ settled_removed d of_dirs sorted last ordered =
     ∙ (rules_by d.work.now st).1
 
 module _ (n s : ℕ) (a : Store) (none : NoneGoldless a) (asked : Input) (whole : IsWhole n s (first_effect a asked).store)
-    (ordered : AreOrdered (first_effect a asked).store.names) (own : is_removed (effect a asked).store.names.removed s ≡ false) where
+    (ordered : AreOrdered (first_effect a asked).store.names) (own : is_removed (removed_of (effect a asked).store) s ≡ false) where
   abbrev Sees : Done → Type 0
   Sees d = NoneGoldless d.store
 
@@ -114,18 +115,18 @@ module _ (n s : ℕ) (a : Store) (none : NoneGoldless a) (asked : Input) (whole 
   End = intended (settled First)
 
   -- the same servers are removed before the house rules
-  first_removed : takes_effect a asked ≡ true → First.store.names.removed ≡ (effect a asked).store.names.removed
+  first_removed : takes_effect a asked ≡ true → removed_of First.store ≡ removed_of (effect a asked).store
   first_removed takes =
       let end_is : (effect a asked).store ≡ End.store = store_is a asked ∙ ap (λ (t : Bool). (cond t End First).store) takes in
       let stays = begin_end_stays (settled First).store (settled First).work in
       sym (settled_removed First whole.names.dirs whole.names.sorted whole.names.last ordered)
       ∙ sym (ap (λ (x : NamesValue). x.removed) stays.names)
-      ∙ sym (ap (λ (b : Store). b.names.removed) end_is)
+      ∙ sym (ap (λ (b : Store). removed_of b) end_is)
 
   -- and the server itself is none of them
-  first_live : takes_effect a asked ≡ true → is_removed First.store.names.removed First.store.names.server ≡ false
+  first_live : takes_effect a asked ≡ true → is_removed (removed_of First.store) (server_of First.store) ≡ false
   first_live takes =
-      ap (λ (j : ℕ). is_removed First.store.names.removed j) whole.server
+      ap (λ (j : ℕ). is_removed (removed_of First.store) j) whole.server
       ∙ ap (λ (rs : List ℕ). is_removed rs s) (first_removed takes) ∙ own
 
   -- behind them nothing is goldless, and what is intended changes nothing of it
@@ -171,8 +172,8 @@ acted n views events event t taken act all =
     run_more n (start n) events event ∙ ap (world_after w) (next_is n w event t taken) in
     let now : (run n (events ++ event ∷ [])).stores t.server ≡ (effect a t.asked).store =
     ap (λ (v : World). v.stores t.server) more ∙ after_itself w.stores t.server (effect a t.asked).store in
-    let own : is_removed (effect a t.asked).store.names.removed t.server ≡ false =
-    sym (ap (λ (b : Store). is_removed b.names.removed t.server) now) ∙ (views (events ++ event ∷ []) t.server act.least act.most).own in
+    let own : is_removed (removed_of (effect a t.asked).store) t.server ≡ false =
+    sym (ap (λ (b : Store). is_removed (removed_of b) t.server) now) ∙ (views (events ++ event ∷ []) t.server act.least act.most).own in
     each_after (λ j b. NoneIn n j b) w.stores t.server (effect a t.asked).store all
     (λ least most. effect_none n t.server a (all t.server least most) t.asked whole ordered own)
 
@@ -181,6 +182,7 @@ none_in_runs n views events =
     holds_in_runs n (AllNone n) (record {
       first = λ s least most. first_none n s least most;
       idle = λ w event cause k. k;
+      comes = λ past event server is k. absurd (no_server_comes event server is);
       acts = λ before event t is act k. acted n views before event t is act k;
     }) events
 

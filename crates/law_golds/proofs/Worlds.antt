@@ -38,7 +38,7 @@ use Rattle.law_contents.specs.pg_run.Journal.{mail}
 use Rattle.law_contents.specs.pg_run.Known.{IsFlagOf}
 use Rattle.law_contents.specs.pg_run.Run.{Taking, World, effect_step, idle_step, run, start, taking_in, world_after}
 use Rattle.law_contents.proofs.pg_run.Event.{Comes, effect_is, end_of, store_is}
-use Rattle.law_contents.proofs.pg_run.Frame.{Acts, HasCome, acts_is, each_after, holds_in_runs}
+use Rattle.law_contents.proofs.pg_run.Frame.{Acts, HasCome, acts_is, each_after, holds_in_runs, no_server_comes}
 use Rattle.law_contents.proofs.pg_run.Lists.{contained_among}
 use Rattle.law_births.specs.Flags.{AnyBye, SaysIntent, SaysStore}
 use Rattle.law_births.proofs.Joined.{join_all}
@@ -290,6 +290,7 @@ module _ (n : ℕ) (both : HoldBoth n) (grow : EventsGrow n) (moves : BirthsMove
       holds_in_runs n (AreOwn n) (record {
         first = start_own n;
         idle = idle_own n;
+        comes = λ past event server is k. absurd (no_server_comes event server is);
         acts = acts_own;
       }) events
 

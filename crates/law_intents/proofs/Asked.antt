@@ -22,6 +22,7 @@ use Rattle.law_order.specs.pg_register.Flag.{first_other_gold, is_live, is_remov
 use Rattle.law_order.specs.pg_register.Flag.{is_live_other as is_live_other_flag}
 use Rattle.law_order.specs.pg_store.declared.store.Store.{Store}
 use Rattle.law_order.specs.pg_store.Births.{with_birth, with_wishes}
+use Rattle.law_order.specs.pg_store.Seen.{removed_of, server_of}
 use Rattle.law_order.specs.pg_store.Servers.{next_target}
 use Rattle.law_order.specs.pg_store.Wishes.{without_wish}
 use Rattle.law_order.specs.pg_pieces.Done.{Done, idle}
@@ -58,8 +59,8 @@ pub record FlagsAreOfServers (n : ℕ) (m : NamesValue) : Type 0 where
 
 pub record IsAiming (n s : ℕ) (r : List ℕ) (b : Store) (w : Work) : Type 0 where
   pub servers : b.servers ≡ n
-  pub server : b.names.server ≡ s
-  pub removed : b.names.removed ≡ r
+  pub server : server_of b ≡ s
+  pub removed : removed_of b ≡ r
   pub from : Aims n s r w.from
   pub flags : FlagsAreOfServers n b.names
   pub aims : AreAimed n s r b.intents
@@ -113,21 +114,21 @@ module _ (n s : ℕ) (r : List ℕ) where
       by false is more e = more e
 
   -- in its own view
-  gold_here : (b : Store) (flags : List Flag) → b.names.server ≡ s → b.names.removed ≡ r
-      → first_other_gold s r flags ≡ first_other_gold b.names.server b.names.removed flags
+  gold_here : (b : Store) (flags : List Flag) → server_of b ≡ s → removed_of b ≡ r
+      → first_other_gold s r flags ≡ first_other_gold (server_of b) (removed_of b) flags
   gold_here b flags server removed =
-      sym (ap (λ (l : List ℕ). first_other_gold s l flags) removed) ∙ sym (ap (λ (j : ℕ). first_other_gold j b.names.removed flags) server)
+      sym (ap (λ (l : List ℕ). first_other_gold s l flags) removed) ∙ sym (ap (λ (j : ℕ). first_other_gold j (removed_of b) flags) server)
 
-  holder_of : (b : Store) (next : ℕ) (flags : List Flag) (o : Option ℕ) → first_other_gold b.names.server b.names.removed flags ≡ o → b.names.server ≡ s
-      → b.names.removed ≡ r → All (IsOfServer n) flags → Aims n s r next → Aims n s r (unwrap_or o next)
+  holder_of : (b : Store) (next : ℕ) (flags : List Flag) (o : Option ℕ) → first_other_gold (server_of b) (removed_of b) flags ≡ o → server_of b ≡ s
+      → removed_of b ≡ r → All (IsOfServer n) flags → Aims n s r next → Aims n s r (unwrap_or o next)
   holder_of b next flags None at server removed all here = here
   holder_of b next flags (Some t) at server removed all here = λ some. found_gold flags t all (gold_here b flags server removed ∙ at)
 
-  holder_by_aims : (b : Store) (dir child : FileId) (next : ℕ) (o : Option Entry) → cell_at b.names dir child ≡ o → b.names.server ≡ s → b.names.removed ≡ r
+  holder_by_aims : (b : Store) (dir child : FileId) (next : ℕ) (o : Option Entry) → cell_at b.names dir child ≡ o → server_of b ≡ s → removed_of b ≡ r
       → FlagsAreOfServers n b.names → Aims n s r next → Aims n s r (holder_by b next o)
   holder_by_aims b dir child next None at server removed all here = here
   holder_by_aims b dir child next (Some e) at server removed all here =
-      holder_of b next e.flags (first_other_gold b.names.server b.names.removed e.flags) refl server removed (all.cells dir child e at) here
+      holder_of b next e.flags (first_other_gold (server_of b) (removed_of b) e.flags) refl server removed (all.cells dir child e at) here
 
   -- a gold replica to which there is no edge
   found_apart : (edges : List Edge) (flags : List Flag) (flag : Flag) → All (IsOfServer n) flags
@@ -147,21 +148,21 @@ module _ (n s : ℕ) (r : List ℕ) where
   known_flags b f None at all = All-nil (IsOfServer n)
   known_flags b f (Some own) at all = all.own f own at
 
-  apart_here : (b : Store) (f : FileId) → b.names.server ≡ s → b.names.removed ≡ r
-      → find (is_apart s r (edges_of b f)) (flags_of b f) ≡ find (is_apart b.names.server b.names.removed (edges_of b f)) (flags_of b f)
+  apart_here : (b : Store) (f : FileId) → server_of b ≡ s → removed_of b ≡ r
+      → find (is_apart s r (edges_of b f)) (flags_of b f) ≡ find (is_apart (server_of b) (removed_of b) (edges_of b f)) (flags_of b f)
   apart_here b f server removed =
       sym (ap (λ (l : List ℕ). find (is_apart s l (edges_of b f)) (flags_of b f)) removed)
-      ∙ sym (ap (λ (j : ℕ). find (is_apart j b.names.removed (edges_of b f)) (flags_of b f)) server)
+      ∙ sym (ap (λ (j : ℕ). find (is_apart j (removed_of b) (edges_of b f)) (flags_of b f)) server)
 
-  seek_by : (b : Store) (f : FileId) (o : Option Flag) → find (is_apart b.names.server b.names.removed (edges_of b f)) (flags_of b f) ≡ o
-      → b.servers ≡ n → b.names.server ≡ s → b.names.removed ≡ r → FlagsAreOfServers n b.names → Aims n s r (target_or_next b o)
-  seek_by b f None at servers server removed all = next_aims n s r b servers server removed b.names.server
+  seek_by : (b : Store) (f : FileId) (o : Option Flag) → find (is_apart (server_of b) (removed_of b) (edges_of b f)) (flags_of b f) ≡ o
+      → b.servers ≡ n → server_of b ≡ s → removed_of b ≡ r → FlagsAreOfServers n b.names → Aims n s r (target_or_next b o)
+  seek_by b f None at servers server removed all = next_aims n s r b servers server removed (server_of b)
   seek_by b f (Some flag) at servers server removed all = λ some.
       found_apart (edges_of b f) (flags_of b f) flag (known_flags b f (own_at b.names f) refl all) (apart_here b f server removed ∙ at)
 
   seek_aims : (b : Store) (f : FileId) (w : Work) → IsAiming n s r b w → Aims n s r (seek_target b f)
   seek_aims b f w k =
-      seek_by b f (find (is_apart b.names.server b.names.removed (edges_of b f)) (flags_of b f)) refl k.servers k.server k.removed k.flags
+      seek_by b f (find (is_apart (server_of b) (removed_of b) (edges_of b f)) (flags_of b f)) refl k.servers k.server k.removed k.flags
 
   pub end_aiming : (a : Store) (w : Work) → IsAiming n s r a w → IsAiming n s r (begin_end a w).store (begin_end a w).work
   end_aiming a w =
@@ -194,6 +195,6 @@ module _ (n s : ℕ) (r : List ℕ) where
         };
         confirms = λ d slot is k.
             aiming_begun d.store (confirm_of d.store slot) d.work k
-            (holder_by_aims d.store slot.dir slot.child (next_target d.store d.store.names.server) (cell_at d.store.names slot.dir slot.child) refl k.server k.removed
-            k.flags (next_aims n s r d.store k.servers k.server k.removed d.store.names.server));
+            (holder_by_aims d.store slot.dir slot.child (next_target d.store (server_of d.store)) (cell_at d.store.names slot.dir slot.child) refl k.server k.removed
+            k.flags (next_aims n s r d.store k.servers k.server k.removed (server_of d.store)));
       })

@@ -18,6 +18,7 @@ use Rattle.law_order.specs.pg_register.Flag.{is_live, is_removed}
 use Rattle.law_order.specs.pg_store.declared.store.Store.{Store}
 use Rattle.law_order.specs.pg_store.Births.{draw_birth, with_birth, with_wish}
 use Rattle.law_order.specs.pg_store.Links.{is_clean}
+use Rattle.law_order.specs.pg_store.Seen.{removed_of}
 use Rattle.law_order.specs.pg_store.Store.{is_held}
 use Rattle.law_order.specs.pg_pieces.Done.{Done, idle}
 use Rattle.law_order.specs.pg_pieces.Golds.{flags_of}
@@ -62,11 +63,11 @@ module _ (n s : ℕ) (r : List ℕ) where
     -- who is asked for leave is another server
     far_leaving : (f : FileId) (flag : Flag) → clean_gold a f ≡ Some flag → IsLive n s r flag.server
     far_leaving f flag at =
-        let parts = and_parts (is_live a.names.removed flag) (is_clean a f flag.server flag.birth) (found_passes (is_clean_gold a f) flag (flags_of a f) at) in
-        let live = and_parts flag.raised (not (is_removed a.names.removed flag.server)) parts.0 in
+        let parts = and_parts (is_live (removed_of a) flag) (is_clean a f flag.server flag.birth) (found_passes (is_clean_gold a f) flag (flags_of a f) at) in
+        let live = and_parts flag.raised (not (is_removed (removed_of a) flag.server)) parts.0 in
         record {
           other = clean_other n s a f flag.server flag.birth whole parts.1;
-          stays = subst (λ (l : List ℕ). is_removed l flag.server ≡ false) first.removed (not-true (is_removed a.names.removed flag.server) live.1);
+          stays = subst (λ (l : List ℕ). is_removed l flag.server ≡ false) first.removed (not-true (is_removed (removed_of a) flag.server) live.1);
         }
 
     abbrev Then : Done → Type 0

@@ -8,7 +8,8 @@ use Rattle.law_order.specs.pg_msg.Numbers.{is_in_range}
 use Rattle.law_order.specs.pg_msg.Work.{new_work}
 use Rattle.law_order.specs.pg_names.Names.{NamesValue}
 use Rattle.law_order.specs.pg_store.declared.store.Store.{Store}
-use Rattle.law_order.specs.pg_store.Servers.{is_live_other, view_of}
+use Rattle.law_order.specs.pg_store.Seen.{removed_of, view_of}
+use Rattle.law_order.specs.pg_store.Servers.{is_live_other}
 use Rattle.law_order.specs.pg_store.Store.{is_held, is_before_clock_end}
 use Rattle.law_order.specs.pg_store.Together.{AreBirths}
 use Rattle.law_order.specs.pg_pieces.Done.{Done, idle}
@@ -37,7 +38,7 @@ use Rattle.law_intents.proofs.Settled.{far_settle}
 pub record IsGiven (n s : ℕ) (a : Store) (asked : Input) : Type 0 where
   pub births : AreBirths a
   pub keys : HaveOwnKeys a.intents
-  pub live : EdgesAreLive a a.names.removed
+  pub live : EdgesAreLive a (removed_of a)
   pub held : IsWhole n s a
   pub fresh : (kind : Kind) → is_held a (next_id a kind) ≡ false
   pub whole : IsWhole n s (first_effect a asked).store
@@ -46,7 +47,7 @@ pub record IsGiven (n s : ℕ) (a : Store) (asked : Input) : Type 0 where
 module _ (n s : ℕ) (a : Store) (k : IsResting n s a) where
   -- those that were removed before
   abbrev Old : List ℕ
-  Old = a.names.removed
+  Old = removed_of a
 
   abbrev Fine : Done → Type 0
   Fine d = Far n s Old d
@@ -124,7 +125,7 @@ module _ (n s : ℕ) (a : Store) (k : IsResting n s a) where
   closed_rests : (asked : Input) → IsGiven n s a asked → takes_effect a asked ≡ true → Rests (closed (reply_to a asked) (first_effect a asked))
   closed_rests asked given going =
       let d = first_effect a asked in
-      let late = d.store.names.removed in
+      let late = removed_of d.store in
       let far = far_settle n s late d (first_far asked given going) given.whole in
       let m = settle d.store d.work in
       let is : effect a asked ≡ closed (reply_to a asked) d = ap (λ (t : Bool). cond t (closed (reply_to a asked) d) (finished (reply_to a asked) d)) going in

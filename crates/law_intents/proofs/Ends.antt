@@ -18,6 +18,7 @@ use Rattle.law_order.specs.pg_names.declared.attributes.Attributes.{Attributes}
 use Rattle.law_order.specs.pg_names.Names.{NamesValue, or_blank, own_at, own_or_blank}
 use Rattle.law_order.specs.pg_register.declared.place.Place.{Place}
 use Rattle.law_order.specs.pg_store.declared.store.Store.{Store}
+use Rattle.law_order.specs.pg_store.Seen.{removed_of, server_of}
 use Rattle.law_order.specs.pg_store.Store.{is_held}
 use Rattle.law_order.specs.pg_pieces.Done.{idle}
 use Rattle.law_order.specs.pg_intentions.Beginning.{begin_end}
@@ -35,8 +36,8 @@ use Rattle.law_intents.proofs.Asked.{FlagsAreOfServers, end_aiming}
 -- server s of n behind an event
 pub record IsResting (n s : ℕ) (a : Store) : Type 0 where
   pub servers : a.servers ≡ n
-  pub server : a.names.server ≡ s
-  pub aims : AreAimed n s a.names.removed a.intents
+  pub server : server_of a ≡ s
+  pub aims : AreAimed n s (removed_of a) a.intents
   pub confirms : ConfirmsFit a
   pub seeks : 1 ≤ s → s ≤ n → SeeksFit a
   pub patches : ArePatchesSoFar a.names [] a.intents

@@ -20,6 +20,7 @@ use Rattle.law_order.proofs.pg_intent.Turned.{own-turned, turn_found}
 use Rattle.law_order.specs.pg_msg.declared.work.Work.{Work}
 use Rattle.law_order.specs.pg_names.Names.{NamesValue, remove_server}
 use Rattle.law_order.specs.pg_store.declared.store.Store.{Store}
+use Rattle.law_order.specs.pg_store.Seen.{removed_of}
 use Rattle.law_order.specs.pg_store.Servers.{next_target}
 use Rattle.law_order.specs.pg_store.Views.{cut_each, enter, with_removed}
 use Rattle.law_order.proofs.pg_store.Entered.{cuts_intents, enter_names}
@@ -138,7 +139,7 @@ module _ (n s : ℕ) (r : List ℕ) (server : ℕ) where
     names_are : Behind.names ≡ remove_server Before.names server
     names_are = enter_names Before server
 
-    removed_are : Behind.names.removed ≡ Later
+    removed_are : removed_of Behind ≡ Later
     removed_are = ap (λ (m : NamesValue). m.removed) names_are ∙ ap (λ (l : List ℕ). l ++ server ∷ []) k.removed
 
     after : IsWhole n s Behind

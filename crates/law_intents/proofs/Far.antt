@@ -34,6 +34,7 @@ use Rattle.law_order.specs.pg_house.Work.{is_root, note_left}
 use Rattle.law_order.specs.pg_store.declared.store.Store.{Store}
 use Rattle.law_order.specs.pg_store.Beginning.{with_intents}
 use Rattle.law_order.specs.pg_store.Links.{is_new_link, link, put_link}
+use Rattle.law_order.specs.pg_store.Seen.{removed_of, server_of}
 use Rattle.law_order.specs.pg_store.Store.{entry_news, is_new_version, is_newer_entry, is_newer_flag, is_newer_place, put_entry, put_flag, put_place, put_version}
 use Rattle.law_order.specs.pg_pieces.Accepting.{link_peer, with_link}
 use Rattle.law_order.specs.pg_cells.Cells.{taken}
@@ -61,8 +62,8 @@ AreAimed n s removed is = All (λ (i : Intent). Aims n s removed (target_of i)) 
 -- server s of n, in whose view these are removed, in the midst of an event
 pub record IsFar (n s : ℕ) (r : List ℕ) (d : Done) : Type 0 where
   pub servers : d.store.servers ≡ n
-  pub server : d.store.names.server ≡ s
-  pub removed : d.store.names.removed ≡ r
+  pub server : server_of d.store ≡ s
+  pub removed : removed_of d.store ≡ r
   pub from : Aims n s r d.work.from
   pub aims : AreAimed n s r d.store.intents
   pub slots : (x : Slot) → IsOneOf x d.work.left → IsSlot d.store.names x
@@ -70,7 +71,7 @@ pub record IsFar (n s : ℕ) (r : List ℕ) (d : Done) : Type 0 where
 
 -- in the view that it has then
 abbrev pub IsFarThen : ℕ → ℕ → Done → Type 0
-IsFarThen n s d = IsFar n s d.store.names.removed d
+IsFarThen n s d = IsFar n s (removed_of d.store) d
 
 pub far_then : (n s : ℕ) (r : List ℕ) (d : Done) → IsFar n s r d → IsFarThen n s d
 far_then n s r d k = subst (λ (l : List ℕ). IsFar n s l d) (sym k.removed) k

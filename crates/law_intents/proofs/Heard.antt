@@ -15,6 +15,7 @@ use Rattle.law_order.specs.pg_names.Names.{fill as fill_names, filled}
 use Rattle.law_order.specs.pg_store.declared.store.Store.{Store}
 use Rattle.law_order.specs.pg_store.Births.{birth_of, with_wishes}
 use Rattle.law_order.specs.pg_store.Links.{is_linked, unlink}
+use Rattle.law_order.specs.pg_store.Seen.{server_of}
 use Rattle.law_order.specs.pg_store.Servers.{next_target}
 use Rattle.law_order.specs.pg_store.Store.{acknowledge, keep_delta, replica_at, replica_of, with_names}
 use Rattle.law_order.specs.pg_store.Wishes.{aim_wish}
@@ -68,7 +69,7 @@ module _ (n s : ℕ) (r : List ℕ) where
   from_beside a word w None = beside_itself w
   from_beside a word w (Some f) =
       let edges = edges_of a f in
-      along_beside a f a.names.server (birth_of a f) most_hops (word / length edges) w (slice_get edges (word % length edges))
+      along_beside a f (server_of a) (birth_of a f) most_hops (word / length edges) w (slice_get edges (word % length edges))
 
   pub far_tick : (d : Done) (word : ℕ) → Fine d → Fine (idle d.store (walk_of_tick d.store word d.work))
   far_tick d word k =

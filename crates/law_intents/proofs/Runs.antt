@@ -12,7 +12,7 @@ use Rattle.law_order.specs.pg_store.declared.store.Store.{Store}
 use Rattle.law_order.specs.pg_store.Store.{new_store}
 use Rattle.law_order.specs.pg_server.Local.{effect}
 use Rattle.law_order.specs.pg_run.Run.{World, effect_step, run, world_after}
-use Rattle.law_order.proofs.pg_run.Frame.{Acts, each_after, holds_in_runs}
+use Rattle.law_order.proofs.pg_run.Frame.{Acts, each_after, holds_in_runs, no_server_comes}
 use Rattle.law_order.specs.pg_run.Run.{Taking}
 use Rattle.law_order.specs.pg_run.Views.{ViewsArePrefixes}
 use Rattle.law_order.specs.Laws.{files_of}
@@ -88,5 +88,6 @@ all_rest n views events =
     holds_in_runs n (AllRest n) (record {
       first = λ s. first_rests n s;
       idle = λ w event cause k. k;
+      comes = λ past event server is k. absurd (no_server_comes event server is);
       acts = λ before event t is act k. acted_rests n views before event t act k;
     }) events

@@ -29,6 +29,7 @@ use Rattle.law_order.specs.pg_replica.Replicas.{lists_peer}
 use Rattle.law_order.specs.pg_store.declared.store.Store.{Store}
 use Rattle.law_order.specs.pg_store.Births.{birth_of}
 use Rattle.law_order.specs.pg_store.Links.{is_linked}
+use Rattle.law_order.specs.pg_store.Seen.{removed_of, server_of}
 use Rattle.law_order.specs.pg_store.Servers.{is_live_other}
 use Rattle.law_order.specs.pg_store.Store.{is_held, replica_at}
 use Rattle.law_order.specs.pg_pieces.Golds.{flags_of}
@@ -194,20 +195,20 @@ module _ (p : Saying) (other : (file : FileId) → p.IsChild file → is_same_fi
 
   -- ---- targets
 
-  live_other : (t : ℕ) → IsLive n s a.names.removed t → is_live_other a t ≡ true
+  live_other : (t : ℕ) → IsLive n s (removed_of a) t → is_live_other a t ≡ true
   live_other t o =
       let one : nat_le 1 t ≡ true = le-leb 1 t o.other.least in
       let two : nat_le t a.servers ≡ true = le-leb t a.servers (subst (λ (m : ℕ). t ≤ m) (sym r.servers) o.other.most) in
-      let three : (t == a.names.server) ≡ false = ne_eqb t a.names.server (λ e. o.other.apart (e ∙ r.server)) in
-      ap (λ (x : Bool). x && (nat_le t a.servers && (not (t == a.names.server) && not (is_removed a.names.removed t)))) one
-      ∙ ap (λ (x : Bool). x && (not (t == a.names.server) && not (is_removed a.names.removed t))) two
-      ∙ ap (λ (x : Bool). not x && not (is_removed a.names.removed t)) three
+      let three : (t == server_of a) ≡ false = ne_eqb t (server_of a) (λ e. o.other.apart (e ∙ r.server)) in
+      ap (λ (x : Bool). x && (nat_le t a.servers && (not (t == server_of a) && not (is_removed (removed_of a) t)))) one
+      ∙ ap (λ (x : Bool). x && (not (t == server_of a) && not (is_removed (removed_of a) t))) two
+      ∙ ap (λ (x : Bool). not x && not (is_removed (removed_of a) t)) three
       ∙ ap (λ (x : Bool). not x) o.stays
 
   targets : (i : Intent) → IsAmong a.intents i → target_of i ≢ 0 → is_live_other a (target_of i) ≡ true
   targets i at some =
-      let here : Aims n s a.names.removed (target_of i) =
-      subst (λ (j : Intent). Aims n s a.names.removed (target_of j)) (sym at.1.1) (r.aims at.0 i at.1.0) in
+      let here : Aims n s (removed_of a) (target_of i) =
+      subst (λ (j : Intent). Aims n s (removed_of a) (target_of j)) (sym at.1.1) (r.aims at.0 i at.1.0) in
       live_other (target_of i) (here some)
 
   pub intends : IntendsInOrder a

@@ -34,6 +34,7 @@ use Rattle.law_births.specs.pg_server.declared.input.Input.TheVariants as input
 use Rattle.law_births.specs.pg_server.Local.{effect, takes_effect}
 use Rattle.law_births.specs.pg_store.declared.store.Store.{Store}
 use Rattle.law_births.specs.pg_store.Births.{birth_of}
+use Rattle.law_births.specs.pg_store.Seen.{server_of}
 use Rattle.law_births.specs.pg_store.Store.{replica_of}
 use Rattle.law_births.specs.pg_store.Together.{birth_at}
 use Rattle.law_births.specs.pg_run.Carried.{gone_in}
@@ -117,12 +118,12 @@ module _ (n : ℕ) (on : StandOn n) (file : FileId) (events : List Event) (event
     lowered : (f : Flag) → flag_in (x.cells (key.Flag S)) ≡ Some f → f.birth ≡ own → f.raised ≡ false
     lowered f at of_own =
         let here = flag_at A file S f (ap (λ (z : Seen Cell). flag_in (z.cells (key.Flag S))) view ∙ at) in
-        let server : A.names.server ≡ S = (on.whole events S).server in
+        let server : server_of A ≡ S = (on.whole events S).server in
         let own_is : birth_of A file ≡ own = ap (λ (o : Option Replica). (or_nothing o).birth) leave.held ∙ leave.born ∙ sym births in
         let plain : is_gold A file ≡ false = ap (is_gold A) (sym leave.of) ∙ leave.may.plain in
         let flagged : is_raised_with (Some f) own ≡ false =
         ap (λ o. is_raised_with o own) (sym here) ∙ ap (λ u. is_raised (flags_of A file) u own) (sym server)
-        ∙ ap (is_raised (flags_of A file) A.names.server) (sym own_is) ∙ plain in
+        ∙ ap (is_raised (flags_of A file) (server_of A)) (sym own_is) ∙ plain in
         not_raised f own f.raised (f.birth == own) refl refl of_own flagged
 
     told : (peer birth : ℕ) → is_listed x.edges peer birth ≡ true → Contains next.store.intents (intent.Bye file own peer birth)

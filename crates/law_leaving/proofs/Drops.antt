@@ -20,6 +20,7 @@ use Rattle.law_births.specs.pg_register.Flag.{is_removed}
 use Rattle.law_births.specs.pg_replica.declared.replica.Replica.{Replica}
 use Rattle.law_births.specs.pg_server.declared.input.Input.TheVariants as input
 use Rattle.law_births.specs.pg_store.declared.store.Store.{Store}
+use Rattle.law_births.specs.pg_store.Seen.{removed_of}
 use Rattle.law_births.specs.pg_store.Store.{replica_at}
 use Rattle.law_births.specs.pg_run.Laws.{store_after}
 use Rattle.law_births.specs.pg_run.Leaving.{Goes}
@@ -48,7 +49,7 @@ pub record IsLeft (n : ℕ) (events : List Event) (s from : ℕ) (file : FileId)
 
 module _ (n : ℕ) (file : FileId) (w : World) (s t birth : ℕ) where
   -- as the edges see it, and as it is
-  all_of : is_removed (w.stores s).names.removed t ≡ false → (x : Replica) → replica_at (w.stores s) file ≡ Some x
+  all_of : is_removed (removed_of (w.stores s)) t ≡ false → (x : Replica) → replica_at (w.stores s) file ≡ Some x
       → HasAll (leaving n file) (site w t) birth (seen (w.stores s) file x) → HasAllOf w s file t birth
   all_of there x is h =
       let b = w.stores t in
@@ -89,7 +90,7 @@ module _ (n : ℕ) (on : Stands n) (events : List Event) (event : Event) (s from
       let peer : d.0 ≡ from = ap (speaker goes.packet.from) (sym says) ∙ speaks file goes.packet.from s M ∙ goes.sender in
       let birth : d.1 ≡ leave.ends.sender =
       ap giver (sym says ∙ leave_ok_says file goes.packet.from s M leave.ends leave.stamp leave.is leave.of) in
-      let all = all_of n file (run n events) s d.0 d.1 (false_from_ne_true (is_removed A.names.removed d.0) d.3) x leave.held d.4 in
+      let all = all_of n file (run n events) s d.0 d.1 (false_from_ne_true (is_removed (removed_of A) d.0) d.3) x leave.held d.4 in
       let P : ℕ → Type 0 = (λ z. HasAllOf (run n events) s file z d.1) in
       let Q : ℕ → Type 0 = (λ z. HasAllOf (run n events) s file from z) in
       let R : ℕ → Type 0 = (λ z. IsLeave A z M file) in

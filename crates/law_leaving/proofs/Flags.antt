@@ -15,7 +15,7 @@ use Rattle.theory_leaving.specs.Protocol.{HasLater, IsSound}
 use Rattle.law_births.specs.pg_names.Names.{cell_at as entry_at, own_or_blank}
 use Rattle.law_births.specs.theory_flood_pieces.Seen.{plain, seen}
 use Rattle.law_births.specs.theory_flood_pieces.UpTo.{IsUpTo}
-use Rattle.law_births.proofs.theory_flood_pieces.Flags.{server_of}
+use Rattle.law_births.proofs.theory_flood_pieces.Flags.{flag_server}
 use Rattle.law_births.proofs.theory_flood_pieces.Stores.{plain_at}
 use Rattle.law_births.proofs.theory_flood_pieces.Counting.{is_sound}
 use Rattle.law_births.specs.pg_register.declared.flag.Flag.{Flag}
@@ -80,7 +80,7 @@ flag_stands : (b : Store) (file : FileId) (q : Key) (g : Flag) → plain_at b fi
 flag_stands b file key.Place g e = absurd (let z : None ≡ Some g = ap flag_in e in cc)
 flag_stands b file (key.Flag v) g e =
     let at : flag_in (plain_at b file (key.Flag v)) ≡ Some g = ap flag_in e in
-    let same : g.server ≡ v = server_of (own_or_blank b.names file).flags v g (flag_at b file v g at) in
+    let same : g.server ≡ v = flag_server (own_or_blank b.names file).flags v g (flag_at b file v g at) in
     ap (λ n. flag_in (plain_at b file (key.Flag n))) same ∙ at
 flag_stands b file (key.Entry child) g e = absurd (no_entry (entry_at b.names file child) (is_sure b file child) g e)
 flag_stands b file (key.Version stamp) g e = absurd (no_version (head_at (content_of b file).heads (key.Version stamp)) g e)
@@ -110,7 +110,7 @@ module _ (n : ℕ) (file : FileId) where
       let first = cells_of a.store file x one in
       let second = cells_of b.store file y two in
       let mine : flag_in (plain_at a.store file (key.Flag u)) ≡ Some f = ap (λ (cs : Key → Option Cell). flag_in (cs (key.Flag u))) (sym first) ∙ is in
-      let server = server_of (own_or_blank a.store.names file).flags u f (flag_at a.store file u f mine) in
+      let server = flag_server (own_or_blank a.store.names file).flags u f (flag_at a.store file u f mine) in
       let h = all (key.Flag u) (cell.Flag f) (cell_back (x.cells (key.Flag u)) f is) in
       let P : (Key → Option Cell) → Type 0 = (λ cs. HasLater (leaving n file) cs u f) in
       subst P (sym second) (later_by b.store f u h.key h.cell server (ap (λ (cs : Key → Option Cell). cs h.key) (sym second) ∙ h.is) h.upto)

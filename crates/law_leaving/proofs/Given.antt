@@ -6,6 +6,7 @@ use Rattle.theory_leaving.specs.Moment.{IsKept}
 use Rattle.theory_leaving.specs.Rule.{Rule}
 use Rattle.law_births.specs.pg_register.Flag.{is_removed}
 use Rattle.law_births.specs.pg_run.Run.{Taking, run, taking_in}
+use Rattle.law_births.specs.pg_store.Seen.{removed_of}
 use Rattle.law_leaving.specs.Premises.{StandOn}
 use Rattle.law_leaving.specs.Seen.{leaving, turn}
 use Rattle.law_leaving.specs.Taken.{Site}
@@ -31,7 +32,7 @@ module _ (n : ℕ) (on : StandOn n) (sends : Sends n) (file : FileId) (events : 
         drops = dropped n on sends file events event t is k;
         owes = owes n on sends file events event t is k;
         ends = ends n on sends file events event t is k;
-        removed = λ u h. subst (λ (z : Site). is_removed z.store.names.removed u ≡ true)
+        removed = λ u h. subst (λ (z : Site). is_removed (removed_of z.store) u ≡ true)
             (site_is n on sends file events event t is k) (stays_removed n on events event t is u h);
         acks = λ m o own u b q g among ack.
             acks n on events event t.server t.asked is sends.answers file m o own u b q g among ack;

@@ -21,6 +21,7 @@ use Rattle.law_births.proofs.theory_flood_pieces.Choices.{found_replica}
 use Rattle.law_births.proofs.theory_flood_pieces.Found.{edges_found, tag_on_edge}
 use Rattle.law_births.specs.pg_replica.declared.replica.Replica.{Replica}
 use Rattle.law_births.specs.pg_store.declared.store.Store.{Store}
+use Rattle.law_births.specs.pg_store.Seen.{removed_of}
 use Rattle.law_births.specs.pg_store.Store.{replica_at}
 use Rattle.law_births.specs.pg_store.Together.{IsOver}
 use Rattle.law_births.specs.pg_register.Flag.{is_removed}
@@ -100,7 +101,7 @@ module _ (n : ℕ) (on : StandOn n) (events : List Event) where
       subst (IsOver (At t) file) went.born (what_went_is_over n on events t file went.replica went.went)
 
   pub known : (s : ℕ) → 1 ≤ s → s ≤ n → (file : FileId) (x : Replica) (e : Edge) → replica_at (At s) file ≡ Some x → IsAmong x.edges e
-      → IsHeard (At s) file e → is_removed (At e.peer).names.removed s ≡ false → HasEdge W file s e.peer ⊎ OwesBye W s file x e
+      → IsHeard (At s) file e → is_removed (removed_of (At e.peer)) s ≡ false → HasEdge W file s e.peer ⊎ OwesBye W s file x e
   known s least most file x e here among h unseen =
       let heard = heard_of s file x e here among h in
       let listed = own_born e (edge_to x.edges e.peer) (edge_found s file x e here among) in

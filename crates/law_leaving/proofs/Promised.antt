@@ -16,7 +16,7 @@ use Rattle.law_births.specs.pg_run.Journal.{mail}
 use Rattle.law_births.specs.pg_run.Ruled.{heard_in}
 use Rattle.law_births.specs.pg_run.Run.{Taking, World, effect_step, run, taking_in, took_after, world_after}
 use Rattle.law_births.specs.pg_run.Took.{Take}
-use Rattle.law_births.proofs.pg_run.Frame.{Acts, HasCome, all_parts, holds_in_runs}
+use Rattle.law_births.proofs.pg_run.Frame.{Acts, HasCome, all_parts, holds_in_runs, no_server_comes}
 use Rattle.law_leaving.specs.Answers.{AnswersAreToAccepted}
 use Rattle.law_leaving.specs.Premises.{StandOn}
 use Rattle.law_leaving.specs.Taken.{Site, site, taking}
@@ -82,5 +82,6 @@ pub runs_keep_taken : (n : ℕ) → StandOn n → AnswersAreToAccepted n → (ev
 runs_keep_taken n on answers events = holds_in_runs n Keeps (record {
   first = start_taken n;
   idle = λ w event cause k. record { edges = k.edges; promises = k.promises; notes = k.notes };
+  comes = λ past event server is k. absurd (no_server_comes event server is);
   acts = λ before event t is acts k. acted n on answers before event t is acts k;
 }) events

@@ -29,6 +29,7 @@ use Rattle.law_births.specs.pg_server.declared.input.Input.{Input}
 use Rattle.law_births.specs.pg_server.declared.input.Input.TheVariants as input
 use Rattle.law_births.specs.pg_server.Local.{closed, effect, finished, first_effect, receive, reply_to, takes_effect}
 use Rattle.law_births.specs.pg_store.declared.store.Store.{Store}
+use Rattle.law_births.specs.pg_store.Seen.{removed_of}
 use Rattle.law_births.specs.pg_store.Store.{replica_at}
 use Rattle.law_births.specs.pg_store.Together.{birth_at}
 use Rattle.law_births.specs.pg_run.Carried.{gone_in}
@@ -191,7 +192,7 @@ module _ (n : ℕ) (on : StandOn n) (sends : Sends n) (file : FileId) (events : 
 
   pub ends : (own peer birth : ℕ) → Contains A.intents (intent.Bye file own peer birth)
       → Contains B.intents (intent.Bye file own peer birth)
-      ⊎ (HearsWord (leaving n file) (message_in S t.asked) (ByeOk peer S own) ⊎ (is_removed B.names.removed peer ≡ true))
+      ⊎ (HearsWord (leaving n file) (message_in S t.asked) (ByeOk peer S own) ⊎ (is_removed (removed_of B) peer ≡ true))
   ends own peer birth h = elim (on.events.answered events event S t.asked is file own peer birth h) [
     | inl on_it ↦ inl on_it
     | inr (inl done) ↦

@@ -34,6 +34,7 @@ use Rattle.law_births.specs.pg_server.declared.input.Input.TheVariants as input
 use Rattle.law_births.specs.pg_store.declared.store.Store.{Store}
 use Rattle.law_births.specs.theory_flood_pieces.UpTo.{IsUpTo}
 use Rattle.law_births.specs.pg_store.Cells.{cell_at, entry_cell, flag_cell, is_sure, version_cell}
+use Rattle.law_births.specs.pg_store.Seen.{removed_of, server_of}
 use Rattle.law_births.specs.pg_store.Servers.{is_live_other}
 use Rattle.law_births.specs.pg_store.Store.{content_of, replica_at}
 use Rattle.law_births.specs.pg_run.Histories.{content_after, taken_after, versions_after}
@@ -202,25 +203,25 @@ module _ (n : ℕ) (on : StandOn n) (events : List Event) (event : Event) (s fro
   is_live : is_live_other At goes.packet.from ≡ true
   is_live = sender_live At goes.packet goes.heard
 
-  pub unremoved : is_removed At.names.removed from ≡ false
+  pub unremoved : is_removed (removed_of At) from ≡ false
   unremoved =
-      let P : ℕ → Type 0 = (λ u. is_removed At.names.removed u ≡ false) in
+      let P : ℕ → Type 0 = (λ u. is_removed (removed_of At) u ≡ false) in
       let u = goes.packet.from in
-      subst P goes.sender (false_from_ne_true (is_removed At.names.removed u) (live_unremoved At u is_live))
+      subst P goes.sender (false_from_ne_true (is_removed (removed_of At) u) (live_unremoved At u is_live))
 
   pub other : (from ≢ s) × (1 ≤ from) × (from ≤ n)
   other =
       let u = goes.packet.from in
       let up = nat_le u At.servers in
-      let apart = not (u == At.names.server) in
-      let kept = not (is_removed At.names.removed u) in
+      let apart = not (u == server_of At) in
+      let kept = not (is_removed (removed_of At) u) in
       let parts = and_parts (nat_le 1 u) (up && (apart && kept)) is_live in
       let rest = and_parts up (apart && kept) parts.1 in
       let different = and_parts apart kept rest.1 in
       let whole = on.whole events s in
       let P : ℕ → Type 0 = (λ z. (z ≢ s) × (1 ≤ z) × (z ≤ n)) in
       subst P goes.sender (
-        λ same. false≢true (sym (ap not (eq-eqb u At.names.server (same ∙ sym whole.server))) ∙ different.0),
+        λ same. false≢true (sym (ap not (eq-eqb u (server_of At) (same ∙ sym whole.server))) ∙ different.0),
         leb-true 1 u parts.0,
         subst (λ z. u ≤ z) whole.servers (leb-true u At.servers rest.0),
       )

@@ -31,6 +31,7 @@ use Rattle.law_births.specs.pg_server.declared.input.Input.TheVariants as input
 use Rattle.law_births.specs.pg_server.Local.{first_effect, is_heard, receive, takes_effect, ticked, without_sources}
 use Rattle.law_births.specs.pg_store.declared.store.Store.{Store}
 use Rattle.law_births.specs.pg_store.Links.{is_linked}
+use Rattle.law_births.specs.pg_store.Seen.{server_of}
 use Rattle.law_births.specs.pg_store.Store.{is_before_clock_end, replica_at}
 use Rattle.law_births.specs.pg_pieces.declared.accepting.EdgeUse.{EdgeUse}
 use Rattle.law_births.specs.pg_pieces.declared.accepting.EdgeUse.TheVariants as manner
@@ -86,7 +87,7 @@ module _ (s : ℕ) (a : Store) (asked : Input) where
   plain : (m : Sent) → is_plain m.packet.message ≡ true → Q m
   plain m h = plain_says m.packet.message m h
 
-  module _ (server : a.names.server ≡ s) (then : (behind a asked).names.server ≡ s)
+  module _ (server : server_of a ≡ s) (then : server_of (behind a asked) ≡ s)
       (ticks : (moment word : ℕ) → asked ≡ input.Tick moment word → (file : FileId) (birth peer peer_birth : ℕ)
       → Owes a file birth peer peer_birth → Owes (behind a asked) file birth peer peer_birth) where
     -- ---- the first effect
@@ -183,7 +184,7 @@ module _ (s : ℕ) (a : Store) (asked : Input) where
         let d = end_of a asked in
         let first = first_sends asked refl in
         let same : behind a asked ≡ d.store = store_is a asked in
-        let own : d.store.names.server ≡ s = ap (λ (b : Store). b.names.server) (sym same) ∙ then in
+        let own : server_of d.store ≡ s = ap (λ (b : Store). server_of b) (sym same) ∙ then in
         all_sent Q a asked first.0 (cells_fine Q plain d.store (is_chosen d.work.touched d.work.linked))
         (asks_by_have Q d.store d.work.begun (asked_fine Q plain d.store (λ file birth peer peer_birth owes.
         (own, subst (λ (b : Store). Owes b file birth peer peer_birth) (sym same) owes))))
@@ -227,8 +228,8 @@ module _ (n : ℕ) (whole : RunsStayWhole n) (intends : IntentionsAreInOrder n)
 
   said : (m : Sent) → Contains (sent_in A asked) m → Q s A asked m
   said m among =
-      let then : (behind A asked).names.server ≡ s =
-      ap (λ (b : Store). b.names.server) (sym (behind_is n events event s asked is))
+      let then : server_of (behind A asked) ≡ s =
+      ap (λ (b : Store). server_of b) (sym (behind_is n events event s asked is))
       ∙ (whole (events ++ event ∷ []) s).server in
       All-contains (Q s A asked) (sent_in A asked) m (all_said s A asked (whole events s).server then on_tick) among
 

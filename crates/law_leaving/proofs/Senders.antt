@@ -8,7 +8,8 @@ use Rattle.law_births.specs.pg_register.Flag.{is_removed}
 use Rattle.law_births.specs.pg_server.declared.input.Input.TheVariants as input
 use Rattle.law_births.specs.pg_server.Local.{takes_effect}
 use Rattle.law_births.specs.pg_store.declared.store.Store.{Store}
-use Rattle.law_births.specs.pg_store.Servers.{is_live_other, view_of}
+use Rattle.law_births.specs.pg_store.Seen.{removed_of, server_of, view_of}
+use Rattle.law_births.specs.pg_store.Servers.{is_live_other}
 use Rattle.law_births.specs.pg_store.Store.{is_before_clock_end}
 
 pub sender_live : (a : Store) (packet : Packet) → takes_effect a (input.Arrival packet) ≡ true
@@ -20,11 +21,11 @@ sender_live a packet heard =
     let behind = (and_parts (is_before_clock_end a) (in_view && (live && range)) heard).1 in
     (and_parts live range (and_parts in_view (live && range) behind).1).0
 
-pub live_unremoved : (a : Store) (u : ℕ) → is_live_other a u ≡ true → is_removed a.names.removed u ≡ true → ⊥
+pub live_unremoved : (a : Store) (u : ℕ) → is_live_other a u ≡ true → is_removed (removed_of a) u ≡ true → ⊥
 live_unremoved a u live gone =
     let up = nat_le u a.servers in
-    let apart = not (u == a.names.server) in
-    let kept = not (is_removed a.names.removed u) in
+    let apart = not (u == server_of a) in
+    let kept = not (is_removed (removed_of a) u) in
     let rest = (and_parts (nat_le 1 u) (up && (apart && kept)) live).1 in
     let left = (and_parts apart kept (and_parts up (apart && kept) rest).1).1 in
     false≢true (sym (ap not gone) ∙ left)

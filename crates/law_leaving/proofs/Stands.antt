@@ -8,6 +8,7 @@ use Rattle.theory_leaving.specs.Rule.{Rule}
 use Rattle.law_births.specs.pg_register.Flag.{is_removed}
 use Rattle.law_births.specs.pg_run.Laws.{store_after}
 use Rattle.law_births.specs.pg_run.Run.{Taking, run, taking_in}
+use Rattle.law_births.specs.pg_store.Seen.{removed_of}
 use Rattle.law_leaving.specs.Seen.{leaving, turn}
 use Rattle.law_leaving.proofs.Behind.{EachStaysOrGoes}
 
@@ -24,4 +25,4 @@ pub record Stands (servers : ℕ) : Type 0 where
       → Rule (leaving servers file) events (events ++ event ∷ []) (turn servers events event t)
   pub unremoved : (events : List Event) (event : Event) (t : Taking)
       → taking_in servers (run servers events) event ≡ Some t
-      → (k : ℕ) → is_removed (store_after servers events k).names.removed t.server ≡ true → ⊥
+      → (k : ℕ) → is_removed (removed_of (store_after servers events k)) t.server ≡ true → ⊥

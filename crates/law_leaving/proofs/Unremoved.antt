@@ -5,12 +5,12 @@ use Rattle.std.proofs.lemmas.Bool.{false≢true, leb-false, leb-true}
 use Rattle.law_births.specs.pg_event.declared.event.Event.{Event}
 use Rattle.law_births.specs.pg_register.Flag.{is_removed}
 use Rattle.law_births.specs.pg_store.declared.store.Store.{Store}
-use Rattle.law_births.specs.pg_store.Servers.{view_of}
+use Rattle.law_births.specs.pg_store.Seen.{removed_of, view_of}
 use Rattle.law_births.specs.pg_store.Store.{new_store}
 use Rattle.law_births.specs.pg_run.Journal.{removals}
 use Rattle.law_births.specs.pg_run.Laws.{store_after}
 use Rattle.law_births.specs.pg_run.Run.{Taking, World, run, taking_in}
-use Rattle.law_births.proofs.pg_run.Frame.{Acts, OutlivesEvents, acts_is, holds_in_runs, other_after}
+use Rattle.law_births.proofs.pg_run.Frame.{Acts, OutlivesEvents, acts_is, holds_in_runs, no_server_comes, other_after}
 use Rattle.law_leaving.specs.Premises.{StandOn}
 
 -- ---- fronts
@@ -40,13 +40,14 @@ module _ (n k : ℕ) (away : 1 ≤ k → k ≤ n → ⊥) where
   untouched = record {
     first = refl;
     idle = λ w event cause h. h;
+    comes = λ past event server is h. absurd (no_server_comes event server is);
     acts = λ events event t is acts h.
         other_after (run n events).stores t.server _ k (other (run n events) t acts) ∙ h;
   }
 
-  none_there : (events : List Event) (s : ℕ) → is_removed (store_after n events k).names.removed s ≡ false
+  none_there : (events : List Event) (s : ℕ) → is_removed (removed_of (store_after n events k)) s ≡ false
   none_there events s =
-      ap (λ (a : Store). is_removed a.names.removed s) (holds_in_runs n IsUntouched untouched events)
+      ap (λ (a : Store). is_removed (removed_of a) s) (holds_in_runs n IsUntouched untouched events)
 
 -- ---- who takes an input
 
@@ -58,7 +59,7 @@ module _ (n : ℕ) (on : StandOn n) (events : List Event) (event : Event) (t : T
   acts : Acts n W t
   acts = acts_is n W event t is
 
-  in_view : (k : ℕ) → 1 ≤ k → k ≤ n → is_removed (store_after n events k).names.removed t.server ≡ true → ⊥
+  in_view : (k : ℕ) → 1 ≤ k → k ≤ n → is_removed (removed_of (store_after n events k)) t.server ≡ true → ⊥
   in_view k least most h =
       let a = store_after n events k in
       let front = (on.views events k least most).front in
@@ -66,11 +67,11 @@ module _ (n : ℕ) (on : StandOn n) (events : List Event) (event : Event) (t : T
       ap (λ (r : List ℕ). is_removed r t.server) front ∙ h in
       false≢true (sym acts.live ∙ in_front (view_of a) (removals W.journal) t.server there)
 
-  outside : (k : ℕ) → (1 ≤ k → k ≤ n → ⊥) → is_removed (store_after n events k).names.removed t.server ≡ true → ⊥
+  outside : (k : ℕ) → (1 ≤ k → k ≤ n → ⊥) → is_removed (removed_of (store_after n events k)) t.server ≡ true → ⊥
   outside k away h = false≢true (sym (none_there n k away events t.server) ∙ h)
 
   by : (k : ℕ) (u v : Bool) → nat_le 1 k ≡ u → nat_le k n ≡ v
-      → is_removed (store_after n events k).names.removed t.server ≡ true → ⊥
+      → is_removed (removed_of (store_after n events k)) t.server ≡ true → ⊥
   by k false v one two h =
       let less = leb-false 1 k one in
       outside k (λ least most. omega arith) h
@@ -79,9 +80,9 @@ module _ (n : ℕ) (on : StandOn n) (events : List Event) (event : Event) (t : T
       outside k (λ least most. omega arith) h
   by k true true one two h = in_view k (leb-true 1 k one) (leb-true k n two) h
 
-  pub unremoved : (k : ℕ) → is_removed (store_after n events k).names.removed t.server ≡ true → ⊥
+  pub unremoved : (k : ℕ) → is_removed (removed_of (store_after n events k)) t.server ≡ true → ⊥
   unremoved k h = by k (nat_le 1 k) (nat_le k n) refl refl h
 
-  pub stays_removed : (u : ℕ) → is_removed (store_after n events t.server).names.removed u ≡ true
-      → is_removed (store_after n (events ++ event ∷ []) t.server).names.removed u ≡ true
+  pub stays_removed : (u : ℕ) → is_removed (removed_of (store_after n events t.server)) u ≡ true
+      → is_removed (removed_of (store_after n (events ++ event ∷ []) t.server)) u ≡ true
   stays_removed u h = on.lasting events (event ∷ []) t.server acts.least acts.most u h

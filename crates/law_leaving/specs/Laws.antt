@@ -6,6 +6,7 @@ use Rattle.law_births.specs.pg_entries.declared.cell.Cell.{Cell}
 use Rattle.law_births.specs.pg_event.declared.event.Event.{Event}
 use Rattle.law_births.specs.pg_register.Flag.{is_removed}
 use Rattle.law_births.specs.pg_store.Cells.{cell_at}
+use Rattle.law_births.specs.pg_store.Seen.{removed_of}
 use Rattle.law_births.specs.pg_run.Leaving.{Goes, HasEachCell}
 use Rattle.law_births.specs.pg_run.Run.{World, run}
 use Rattle.law_leaving.specs.Taken.{IsTaken}
@@ -14,7 +15,7 @@ use Rattle.law_leaving.specs.Taken.{IsTaken}
 -- cell that s has of it, or one that tells more, and took what it tells of places, flags and
 -- entries
 pub record HasAllOf (w : World) (s : ℕ) (file : FileId) (t birth : ℕ) : Type 0 where
-  pub there : is_removed (w.stores s).names.removed t ≡ false
+  pub there : is_removed (removed_of (w.stores s)) t ≡ false
   pub cells : HasEachCell w s file t birth
   pub took : (k : Key) (c : Cell) → cell_at (w.stores s) file k ≡ Some c → IsTaken (w.took t) file c
 

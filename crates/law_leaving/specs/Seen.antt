@@ -18,6 +18,7 @@ use Rattle.law_births.specs.pg_register.Flag.{is_removed}
 use Rattle.law_births.specs.pg_server.declared.input.Input.{Input}
 use Rattle.law_births.specs.pg_server.declared.input.Input.TheVariants as input
 use Rattle.law_births.specs.pg_server.Local.{effect}
+use Rattle.law_births.specs.pg_store.Seen.{removed_of}
 use Rattle.law_births.specs.pg_store.Together.{birth_at}
 use Rattle.law_births.specs.pg_run.Journal.{mail}
 use Rattle.law_births.specs.pg_run.Laws.{store_after}
@@ -61,7 +62,7 @@ leaving servers file = record {
   file = file;
   says = λ m. word_of file m.packet.from m.to m.packet.message;
   flag = λ cells server. flag_in (cells (key.Flag server));
-  Removed = λ a t. is_removed a.store.names.removed t ≡ true;
+  Removed = λ a t. is_removed (removed_of a.store) t ≡ true;
   Owes = λ a own t birth. Contains a.store.intents (intent.Bye file own t birth);
   Leaves = λ a own t birth. Contains a.store.intents (intent.Leave file t birth)
       × (birth_at a.store file ≡ Some own);

@@ -24,7 +24,14 @@
 mod laws;
 mod types;
 
-pub use law_spelled as spelled;
 pub use laws::{messages_are_short, sends_packets};
-pub use pg_server as server;
 pub use types::{call_fits, reply_fits};
+
+// What the crates above name through this one.
+pub mod server {
+    pub use pg_server::{Input, Out, Server};
+}
+
+pub mod spelled {
+    pub use law_spelled::{message_fits, spelled};
+}

@@ -17,6 +17,7 @@ use Rattle.law_births.specs.pg_replica.Replicas.{is_of_birth}
 use Rattle.law_births.specs.pg_store.declared.store.Store.{Store}
 use Rattle.law_births.specs.pg_store.Births.{has_birth}
 use Rattle.law_births.specs.pg_store.Links.{knows_later, link}
+use Rattle.law_births.specs.pg_store.Seen.{server_of}
 use Rattle.law_births.specs.pg_store.Store.{is_full, is_held, replica_at, replica_of}
 use Rattle.law_births.specs.pg_pieces.declared.accepting.EdgeUse.TheVariants as manner
 use Rattle.law_births.specs.pg_pieces.Accepting.{accept, is_accepted, is_current, link_peer, meets}
@@ -141,7 +142,7 @@ module _ (a : Store) (k : IsAlone a) (from : ℕ) where
     further = walked a ends origin birth hops word there work
 
     walk_lists : (l : LinkTo) → l ≡ record { file = ends.file; peer = origin; birth = birth }
-        → is_accepted a from manner.Needs ends ≡ true → origin ≢ a.names.server
+        → is_accepted a from manner.Needs ends ≡ true → origin ≢ server_of a
         → IsWalkEnd hops from origin (replica_of a ends.file).edges
         → knows_later a l.file l.peer l.birth ≡ false
         → Listed (walk a ends origin birth hops word work) l
@@ -150,8 +151,8 @@ module _ (a : Store) (k : IsAlone a) (from : ℕ) where
         let P : LinkTo → Type 0 = λ z. knows_later a z.file z.peer z.birth ≡ false → Listed done z in
         subst P (sym e) (λ later. by_link done
         (record { file = ends.file; peer = origin; birth = birth }) (held_there ends accepted) later
-        (within (is_accepted a from manner.Needs ends) (origin == a.names.server) further
-        (idle a work) (accept a ends manner.Needs work) accepted (apart origin a.names.server away)
+        (within (is_accepted a from manner.Needs ends) (origin == server_of a) further
+        (idle a work) (accept a ends manner.Needs work) accepted (apart origin (server_of a) away)
         ∙ ap (λ t. (cond t (idle a (walk_on a ends.file origin birth hops word there work))
         (meet_origin a ends.file origin birth work)).store)
         (ends_here hops from origin (replica_of a ends.file).edges at_end)))

@@ -15,6 +15,7 @@ use Rattle.law_births.specs.pg_replica.Replicas.{is_of_birth, or_nothing}
 use Rattle.law_births.specs.pg_store.declared.store.Store.{Store}
 use Rattle.law_births.specs.pg_store.Births.{has_birth}
 use Rattle.law_births.specs.pg_store.Links.{knows_later}
+use Rattle.law_births.specs.pg_store.Seen.{server_of}
 use Rattle.law_births.specs.pg_store.Store.{is_full, is_held, replica_at, replica_of}
 use Rattle.law_births.specs.pg_pieces.declared.accepting.EdgeUse.TheVariants as manner
 use Rattle.law_births.specs.pg_pieces.Accepting.{is_accepted, is_current, meets}
@@ -34,7 +35,7 @@ IsTestedBy a from l (message.Seek file birth) =
     (l ≡ record { file = file; peer = from; birth = birth }) × (is_held a file ≡ true)
 IsTestedBy a from l (message.Walk ends origin birth hops word) =
     (l ≡ record { file = ends.file; peer = origin; birth = birth })
-    × (is_accepted a from manner.Needs ends ≡ true) × (origin ≢ a.names.server)
+    × (is_accepted a from manner.Needs ends ≡ true) × (origin ≢ server_of a)
     × IsWalkEnd hops from origin (replica_of a ends.file).edges
 IsTestedBy a from l _ = ⊥
 

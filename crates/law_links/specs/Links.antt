@@ -12,6 +12,7 @@ use Rattle.law_births.specs.pg_replica.declared.replica.Replica.{Replica}
 use Rattle.law_births.specs.pg_server.declared.input.Input.TheVariants as input
 use Rattle.law_births.specs.pg_server.Local.{takes_effect}
 use Rattle.law_births.specs.pg_store.declared.store.Store.{Store}
+use Rattle.law_births.specs.pg_store.Seen.{server_of}
 use Rattle.law_births.specs.pg_store.Store.{is_full, is_held, replica_at}
 use Rattle.law_births.specs.pg_run.Run.{next, run, taking_in}
 
@@ -56,7 +57,7 @@ IsLinkedBy a from l (message.Seek file birth) =
     (l ≡ record { file = file; peer = from; birth = birth }) × (is_held a file ≡ true)
 IsLinkedBy a from l (message.Walk ends origin birth hops word) =
     (l ≡ record { file = ends.file; peer = origin; birth = birth })
-    × (along : ComesAlong a from ends) × (origin ≢ a.names.server)
+    × (along : ComesAlong a from ends) × (origin ≢ server_of a)
     × IsWalkEnd hops from origin along.replica.edges
 IsLinkedBy a from l _ = ⊥
 

@@ -13,7 +13,7 @@ use Rattle.theory_listing.proofs.Handlers.{calm_first}
 use Rattle.law_places.specs.pg_names.Names.{cell_at, own_at}
 use Rattle.law_places.specs.pg_register.declared.place.Place.{Place}
 use Rattle.law_places.specs.pg_store.declared.store.Store.{Store}
-use Rattle.law_places.specs.pg_store.Servers.{view_of}
+use Rattle.law_places.specs.pg_store.Seen.{removed_of, view_of}
 use Rattle.theory_listing_house.specs.Listing.{cell_place, own_place}
 use Rattle.theory_listing_house.proofs.Seen.{own_is}
 use Rattle.law_listings.specs.Letters.{Letter, patch_place}
@@ -24,7 +24,7 @@ pub record Alike (a b : Store) : Type 0 where
   pub cells : (d c : FileId) → of_places.cell b d c ≡ of_places.cell a d c
   pub patches : (d c : FileId) → of_places.patch b d c ≡ of_places.patch a d c
   pub confirms : (d c : FileId) → of_places.Confirms a d c → of_places.Confirms b d c
-  pub removed : b.names.removed ≡ a.names.removed
+  pub removed : removed_of b ≡ removed_of a
 
 pub Alike-refl : (a : Store) → Alike a a
 Alike-refl a = record { own = λ f. refl; cells = λ d c. refl; patches = λ d c. refl; confirms = λ d c h. h; removed = refl }
@@ -71,7 +71,7 @@ module _ (a b : Store) (k : Alike a b) where
   back_on : (c : FileId) (r : Place) → of_places.IsBack a c r → of_places.IsBack b c r
   back_on c r back = λ own held.
       let was = own_is (own_at a.names c) own.place (sym (k.own c) ∙ ap own_place held) in
-      ap (λ rs. waits rs c own.place r) k.removed ∙ sym (ap (λ (x : Place). waits a.names.removed c x r) was.2) ∙ back was.0 was.1
+      ap (λ rs. waits rs c own.place r) k.removed ∙ sym (ap (λ (x : Place). waits (removed_of a) c x r) was.2) ∙ back was.0 was.1
 
   none_later_on : (c : FileId) (q : Place) → NoneLater of_places a c q → NoneLater of_places b c q
   none_later_on c q none = λ e r cell low. back_on c r (none e r (sym (k.cells e c) ∙ cell) low)

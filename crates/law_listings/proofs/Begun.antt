@@ -24,6 +24,7 @@ use Rattle.law_places.specs.pg_register.declared.place.Place.{Place}
 use Rattle.theory_listing_house.specs.Listing.{cell_place, own_place}
 use Rattle.law_places.specs.pg_store.declared.store.Store.{Store}
 use Rattle.law_places.specs.pg_store.Beginning.{begin as begin_replica, patch_key, patches_of, put_new, take_patch, take_patches, take_told, take_told_in, with_intents}
+use Rattle.law_places.specs.pg_store.Seen.{removed_of}
 use Rattle.law_places.specs.pg_store.Store.{is_held, take_entry}
 use Rattle.law_listings.specs.Letters.{patch_place}
 use Rattle.law_listings.proofs.PlacesAlone.{of_places}
@@ -79,7 +80,7 @@ module _ (f : FileId) (was : List Intent) where
   -- confirms: Confirms go on
   record AreTaken (z b : Store) : Type 0 where
     own : (g : FileId) → of_places.own b g ≡ of_places.own z g
-    removed : b.names.removed ≡ z.names.removed
+    removed : removed_of b ≡ removed_of z
     others : (d c : FileId) → (d ≡ f) ⊎ (of_places.cell b d c ≡ of_places.cell z d c)
     cells : (c : FileId) (q : Place) → of_places.cell b f c ≡ Some q → HadPatch c
     patches : (d c : FileId) (q : Place) → patch_place (intent_at was (intent_key.Patch d c)) ≡ Some q
@@ -288,5 +289,5 @@ module _ (a : Store) (f : FileId) (birth : ℕ) (policy : Policy) (own : Attribu
   pub confirms_after : (d c : FileId) → of_places.Confirms a d c → of_places.Confirms After d c
   confirms_after d c h = taken.confirms d c h
 
-  pub removed_after : After.names.removed ≡ a.names.removed
+  pub removed_after : removed_of After ≡ removed_of a
   removed_after = taken.removed

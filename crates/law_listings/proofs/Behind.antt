@@ -43,7 +43,7 @@ use Rattle.theory_listing_house.proofs.Seen.{cell_is, own_is}
 use Rattle.theory_listing_house.proofs.Works.{house_unsure}
 use Rattle.law_places.specs.pg_store.declared.store.Store.{Store}
 use Rattle.law_places.specs.pg_store.Births.{birth_of}
-use Rattle.law_places.specs.pg_store.Servers.{view_of}
+use Rattle.law_places.specs.pg_store.Seen.{view_of}
 use Rattle.law_places.specs.pg_store.Store.{is_held, touch, with_names}
 use Rattle.law_places.specs.pg_store.Together.{BirthsMove, birth_at}
 use Rattle.law_places.proofs.pg_store.Over.{over_stays}

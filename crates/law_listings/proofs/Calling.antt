@@ -22,7 +22,7 @@ use Rattle.law_places.specs.pg_run.Intending.{IntendsInOrder, PatchesStand}
 use Rattle.law_places.specs.pg_store.declared.store.Store.{Store}
 use Rattle.law_places.specs.pg_store.declared.wishes.Wish.{Wish}
 use Rattle.law_places.specs.pg_store.Births.{draw_birth, with_birth, with_wish}
-use Rattle.law_places.specs.pg_store.Servers.{view_of}
+use Rattle.law_places.specs.pg_store.Seen.{view_of}
 use Rattle.law_places.specs.pg_store.Store.{is_held}
 use Rattle.law_places.specs.pg_lookup.declared.paths.Found.{Found}
 use Rattle.law_places.specs.pg_lookup.declared.paths.LookupError.{LookupError}

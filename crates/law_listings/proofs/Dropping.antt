@@ -36,7 +36,7 @@ use Rattle.theory_listing_house.specs.Listing.{cell_place}
 use Rattle.theory_listing_house.proofs.Seen.{at_most, cell_is}
 use Rattle.law_places.specs.pg_store.declared.store.Store.{Store}
 use Rattle.law_places.specs.pg_store.Births.{birth_of}
-use Rattle.law_places.specs.pg_store.Servers.{view_of}
+use Rattle.law_places.specs.pg_store.Seen.{view_of}
 use Rattle.law_places.specs.pg_store.Cells.{cell_at, entry_cell, is_sure}
 use Rattle.law_places.specs.pg_store.Store.{is_held, replica_at}
 use Rattle.law_places.specs.pg_store.Together.{AreTogether}

@@ -40,9 +40,10 @@ use Rattle.law_places.specs.pg_edges.declared.edge.Edge.{Edge}
 use Rattle.law_places.specs.pg_store.declared.store.Store.{Store}
 use Rattle.law_places.specs.pg_store.Beginning.{with_intents}
 use Rattle.law_places.specs.pg_store.Births.{is_fill_at, wish_at}
-use Rattle.law_places.specs.pg_store.Servers.{next_target, view_of}
+use Rattle.law_places.specs.pg_store.Servers.{next_target}
 use Rattle.law_places.specs.pg_store.Store.{is_held}
 use Rattle.law_places.specs.pg_store.Links.{is_linked}
+use Rattle.law_places.specs.pg_store.Seen.{removed_of, view_of}
 use Rattle.law_places.specs.pg_store.Views.{cut, cut_born, cut_each, enter, listed_birth, with_removed}
 use Rattle.law_places.specs.pg_store.Wishes.{is_with_birth}
 use Rattle.law_places.proofs.pg_store.Entered.{enter_names}
@@ -227,7 +228,7 @@ module _ (a : Store) (server : ℕ) (heard : Letter) (view : heard.view ≡ view
   cell_is_then d c = ap (λ (n : NamesValue). cell_place (cell_at n d c)) names_are
 
   view_is : view_of B ≡ view_of a + 1
-  view_is = ap (λ (n : NamesValue). length n.removed) names_are ∙ length-append a.names.removed (server ∷ [])
+  view_is = ap (λ (n : NamesValue). length n.removed) names_are ∙ length-append (removed_of a) (server ∷ [])
 
   later : view_of a ≤ view_of B
   later = subst (λ (v : ℕ). view_of a ≤ v) (sym view_is) (omega arith)

@@ -25,7 +25,8 @@ use Rattle.law_places.specs.pg_server.Local.{Effect, closed, done_of, effect, fi
 use Rattle.law_places.specs.pg_server.Local.{intended}
 use Rattle.law_places.proofs.pg_run.Event.{nothing_last, nothing_sent as nothing_sent_behind}
 use Rattle.law_places.specs.pg_store.declared.store.Store.{Store}
-use Rattle.law_places.specs.pg_store.Servers.{is_live_other, view_of}
+use Rattle.law_places.specs.pg_store.Seen.{view_of}
+use Rattle.law_places.specs.pg_store.Servers.{is_live_other}
 use Rattle.law_places.specs.pg_store.Store.{is_held, is_before_clock_end}
 use Rattle.law_places.specs.pg_pieces.Done.{Done, idle}
 use Rattle.law_places.specs.pg_cells.Sending.{cells_where, is_any, is_chosen}

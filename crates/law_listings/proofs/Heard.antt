@@ -37,7 +37,7 @@ use Rattle.theory_listing_house.proofs.Seen.{before_trans}
 use Rattle.law_places.specs.pg_store.declared.store.Store.{Store}
 use Rattle.law_places.specs.pg_store.Beginning.{with_intents}
 use Rattle.law_places.specs.pg_store.Births.{is_fill_at, wish_at}
-use Rattle.law_places.specs.pg_store.Servers.{view_of}
+use Rattle.law_places.specs.pg_store.Seen.{removed_of, view_of}
 use Rattle.law_places.specs.pg_store.Store.{entry_news, is_held, take_entry, take_place}
 use Rattle.law_places.specs.pg_store.Wishes.{is_with_birth}
 use Rattle.law_places.specs.pg_pieces.Done.{Done, idle}
@@ -90,7 +90,7 @@ with_work a heard d e same left unsure k = record {
 -- a place in a directory that is later than a thing's own is held back
 pub record IsBehind (a : Store) : Type 0 where
   pub back : (c e : FileId) (x r : Place) → of_places.own a c ≡ Some x → of_places.cell a e c ≡ Some r → is_before x.stamp r.stamp ≡ true
-      → waits a.names.removed c x r ≡ true
+      → waits (removed_of a) c x r ≡ true
 
 below_then : (q r x : Place) → IsUpTo of_places q r → is_before r.stamp x.stamp ≡ true → is_before q.stamp x.stamp ≡ true
 below_then q r x (inl same) low = ap (λ (p : Place). is_before p.stamp x.stamp) same ∙ low
@@ -106,13 +106,13 @@ waits_later removed c x y r h low =
 
 module _ (a : Store) (behind : IsBehind a) (heard : Letter) (view : heard.view ≡ view_of a) where
   -- cells are as they were, and an own place is no earlier
-  pub none_later : (m : Store) (c : FileId) (q r : Place) → m.names.removed ≡ a.names.removed → ((e : FileId) (x : Place) → of_places.cell m e c ≡ Some x → of_places.cell a e c ≡ Some x)
+  pub none_later : (m : Store) (c : FileId) (q r : Place) → removed_of m ≡ removed_of a → ((e : FileId) (x : Place) → of_places.cell m e c ≡ Some x → of_places.cell a e c ≡ Some x)
       → of_places.own a c ≡ Some q → IsUpTo of_places q r → of_places.own m c ≡ Some r → NoneLater of_places m c r
   none_later m c q r removed same was up now = λ e x cell low own held.
       let is : own.place ≡ r = same_Some own.place r (sym (ap own_place held) ∙ now) in
       let before : is_before q.stamp x.stamp ≡ true = below_then q r x up low in
-      ap (λ rs. waits rs c own.place x) removed ∙ ap (λ p. waits a.names.removed c p x) is
-      ∙ waits_later a.names.removed c q r x (behind.back c e q x was (same e x cell) before) low
+      ap (λ rs. waits rs c own.place x) removed ∙ ap (λ p. waits (removed_of a) c p x) is
+      ∙ waits_later (removed_of a) c q r x (behind.back c e q x was (same e x cell) before) low
 
   pub idle_first : (work : Work) → IsFirst a heard (idle a work)
   idle_first work = plainly a heard (idle a work) (alike_first a a heard view (Alike-refl a)) (same_noted a (idle a work) (λ f. refl))

@@ -20,6 +20,7 @@ use Rattle.theory_listing_house.specs.Listing.{cell_place, own_place}
 use Rattle.theory_listing_house.proofs.Seen.{at_most}
 use Rattle.law_places.specs.pg_store.declared.store.Store.{Store}
 use Rattle.law_places.specs.pg_store.declared.taking.EntryNews.TheVariants as news
+use Rattle.law_places.specs.pg_store.Seen.{removed_of}
 use Rattle.law_places.specs.pg_store.Store.{entry_news, is_held, is_newer_entry, news_beside, news_in, put_entry, take_entry}
 use Rattle.law_places.specs.pg_pieces.Taking.{is_place_news}
 use Rattle.law_listings.proofs.PlacesAlone.{of_places}
@@ -41,9 +42,9 @@ module _ (a : Store) (dir : FileId) (e : Entry) where
   pub intents_then : Then.intents ≡ a.intents
   intents_then = chosen (λ (b : Store). b.intents ≡ a.intents) (is_newer_entry a dir e) (put_entry a dir e) a refl refl
 
-  pub removed_then : Then.names.removed ≡ a.names.removed
+  pub removed_then : removed_of Then ≡ removed_of a
   removed_then =
-      chosen (λ (b : Store). b.names.removed ≡ a.names.removed) (is_newer_entry a dir e) (put_entry a dir e) a
+      chosen (λ (b : Store). removed_of b ≡ removed_of a) (is_newer_entry a dir e) (put_entry a dir e) a
       (update_frame a.names dir (with_joined e)).removed refl
 
   -- another cell is as it was

@@ -28,7 +28,7 @@ use Rattle.theory_listing_house.proofs.Seen.{own_is}
 use Rattle.law_places.specs.pg_store.declared.store.Store.{Store}
 use Rattle.law_places.specs.pg_store.Beginning.{let_go, with_intents}
 use Rattle.law_places.specs.pg_store.Births.{birth_of}
-use Rattle.law_places.specs.pg_store.Servers.{view_of}
+use Rattle.law_places.specs.pg_store.Seen.{view_of}
 use Rattle.law_places.specs.pg_store.Store.{replica_of}
 use Rattle.law_places.specs.pg_pieces.declared.accepting.EdgeUse.TheVariants as manner
 use Rattle.law_places.specs.pg_pieces.Accepting.{accept, is_accepted}

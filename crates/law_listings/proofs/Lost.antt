@@ -24,7 +24,7 @@ use Rattle.law_places.specs.pg_register.declared.place.Place.{Place}
 use Rattle.law_places.specs.pg_run.Intending.{IntendsInOrder, PatchesStand}
 use Rattle.law_places.specs.pg_store.declared.store.Store.{Store}
 use Rattle.law_places.specs.pg_store.Births.{draw_birth, with_birth}
-use Rattle.law_places.specs.pg_store.Servers.{view_of}
+use Rattle.law_places.specs.pg_store.Seen.{removed_of, view_of}
 use Rattle.law_places.specs.pg_store.Store.{is_held, take_entry}
 use Rattle.law_listings.specs.Letters.{Letter, patch_place}
 use Rattle.law_listings.proofs.Alike.{Alike, Alike-refl, Alike-trans, alike_by, alike_first, before_alike, behind_alike}
@@ -45,7 +45,7 @@ record IsStruck (a m : Store) : Type 0 where
   grows : (d c : FileId) (q : Place) → of_places.cell a d c ≡ Some q → IsToldAt of_places m d c q.stamp
   cells : (d c : FileId) (q : Place) → of_places.cell m d c ≡ Some q → (of_places.cell a d c ≡ Some q) ⊎ (q.live ≡ false)
   intents : m.intents ≡ a.intents
-  removed : m.names.removed ≡ a.names.removed
+  removed : removed_of m ≡ removed_of a
 
 struck_itself : (a m : Store) → m.names ≡ a.names → m.intents ≡ a.intents → IsStruck a m
 struck_itself a m names intents =

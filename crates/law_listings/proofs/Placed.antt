@@ -26,7 +26,7 @@ use Rattle.law_places.specs.pg_register.Place.{newer_place, root}
 use Rattle.theory_listing_house.specs.Listing.{cell_place, own_place}
 use Rattle.theory_listing_house.proofs.Seen.{apart}
 use Rattle.law_places.specs.pg_store.declared.store.Store.{Store}
-use Rattle.law_places.specs.pg_store.Servers.{view_of}
+use Rattle.law_places.specs.pg_store.Seen.{removed_of, view_of}
 use Rattle.law_places.specs.pg_store.Store.{is_newer_place, put_place, take_place}
 use Rattle.law_places.specs.pg_pieces.Done.{Done}
 use Rattle.law_places.specs.pg_pieces.Taking.{take_place_noted, with_left_if, with_news}
@@ -68,9 +68,9 @@ module _ (a : Store) (f : FileId) (place : Place) where
   pub intents_then : Then.intents ≡ a.intents
   intents_then = chosen (λ (b : Store). b.intents ≡ a.intents) (is_newer_place a f place) (put_place a f place) a refl refl
 
-  pub removed_then : Then.names.removed ≡ a.names.removed
+  pub removed_then : removed_of Then ≡ removed_of a
   removed_then =
-      chosen (λ (b : Store). b.names.removed ≡ a.names.removed) (is_newer_place a f place) (put_place a f place) a
+      chosen (λ (b : Store). removed_of b ≡ removed_of a) (is_newer_place a f place) (put_place a f place) a
       (update_frame a.names f (with_place place)).removed refl
 
   pub grows_then : (g : FileId) (q : Place) → of_places.own a g ≡ Some q → (r : Place) × (of_places.own Then g ≡ Some r) × IsUpTo of_places q r

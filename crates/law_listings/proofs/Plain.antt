@@ -14,6 +14,7 @@ use Rattle.law_places.specs.pg_names.Names.{own_at}
 use Rattle.law_places.proofs.theory_flood_pieces.Choices.{chosen}
 use Rattle.law_places.specs.pg_store.declared.store.Store.{Store}
 use Rattle.law_places.specs.pg_store.Births.{birth_of}
+use Rattle.law_places.specs.pg_store.Seen.{server_of}
 use Rattle.law_places.specs.pg_pieces.Posting.{sent_to}
 use Rattle.law_listings.specs.Letters.{says}
 use Rattle.law_places.specs.pg_pieces.Accepting.{ends_to}
@@ -24,7 +25,7 @@ use Rattle.std.proofs.lemmas.Bool.{false≢true}
 -- a LeaveOk is from the server that held this, and tells the stamp of the place that it had
 abbrev pub IsStamped : Store → ℕ → Message → Type 0
 IsStamped a from (message.LeaveOk ends stamp) =
-    (from ≡ a.names.server) × ((own : Attributes) × (own_at a.names ends.file ≡ Some own) × (own.place.stamp ≡ stamp))
+    (from ≡ server_of a) × ((own : Attributes) × (own_at a.names ends.file ≡ Some own) × (own.place.stamp ≡ stamp))
 IsStamped a from _ = Unit {0}
 
 abbrev pub IsSentStamped : Store → Sent → Type 0
@@ -80,7 +81,7 @@ from_last : (a : Store) (word : ℕ) (work : Work) (o : Option FileId) → LastO
 from_last a word work None = (refl, λ k. k)
 from_last a word work (Some f) =
     let edges = edges_of a f in
-    along_last a f a.names.server (birth_of a f) most_hops (word / length edges) work (slice_get edges (word % length edges))
+    along_last a f (server_of a) (birth_of a f) most_hops (word / length edges) work (slice_get edges (word % length edges))
 
 -- of a tick
 pub tick_last : (a : Store) (word : ℕ) (work : Work) → LastOthers work (walk_of_tick a word work)

@@ -45,7 +45,8 @@ use Rattle.law_places.specs.pg_store.declared.store.Store.{Store}
 use Rattle.law_places.specs.pg_store.Beginning.{with_intents}
 use Rattle.law_places.specs.pg_store.Births.{is_pending}
 use Rattle.law_places.specs.pg_store.Links.{knows_later}
-use Rattle.law_places.specs.pg_store.Servers.{next_target, view_of}
+use Rattle.law_places.specs.pg_store.Seen.{server_of, view_of}
+use Rattle.law_places.specs.pg_store.Servers.{next_target}
 use Rattle.law_places.specs.pg_store.Store.{is_full, is_held, keep_delta}
 use Rattle.law_places.proofs.pg_store.Given.{pending_may}
 use Rattle.law_places.specs.pg_pieces.declared.accepting.EdgeUse.TheVariants as manner
@@ -133,7 +134,7 @@ module _ (a : Store) (behind : IsBehind a) (order : IntendsInOrder a) (heard : L
   walk_first ends origin birth hops word work =
       let edges = onward a ends.file work.from origin in
       chosen First (is_accepted a work.from manner.Needs ends) _ (accept a ends manner.Needs work)
-      (chosen First (origin == a.names.server) (idle a work) (walked a ends origin birth hops word edges work) (idle_first a behind heard view work) (walked_first ends origin birth hops word edges work))
+      (chosen First (origin == server_of a) (idle a work) (walked a ends origin birth hops word edges work) (idle_first a behind heard view work) (walked_first ends origin birth hops word edges work))
       (alike (accept a ends manner.Needs work) (accept_alike a ends manner.Needs work))
 
   granted_first : (ends : Ends) (g : Granted) (work : Work) → is_pending a ends.file ends.receiver ≡ true → First (begin_granted a ends g work)

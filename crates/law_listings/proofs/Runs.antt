@@ -48,7 +48,7 @@ use Rattle.law_places.specs.pg_server.Local.{Effect, effect, first_effect}
 use Rattle.theory_listing_house.specs.Listing.{cell_place}
 use Rattle.theory_listing_house.proofs.Seen.{cell_is, own_is}
 use Rattle.law_places.specs.pg_store.declared.store.Store.{Store}
-use Rattle.law_places.specs.pg_store.Servers.{view_of}
+use Rattle.law_places.specs.pg_store.Seen.{removed_of, view_of}
 use Rattle.law_places.specs.pg_store.Start.{root_own}
 use Rattle.law_places.specs.pg_store.Store.{new_store}
 use Rattle.law_places.proofs.pg_store.Pairs.{start_together}
@@ -111,17 +111,17 @@ module _ (n : ℕ) (k : ListingsStandOn n) where
     later_by x r same low = ordered.never x.stamp (subst (λ (y : Place). is_before x.stamp y.stamp ≡ true) same low)
 
     passed_back : (c e : FileId) (o : Attributes) (x : Entry) → own_at A.names c ≡ Some o → cell_at A.names e c ≡ Some x → IsPassed A.names (directories A.names) c o
-        → is_before o.place.stamp x.place.stamp ≡ true → waits A.names.removed c o.place x.place ≡ true
+        → is_before o.place.stamp x.place.stamp ≡ true → waits (removed_of A) c o.place x.place ≡ true
     passed_back c e o x held cell p low =
         let top = greatest A.names c o (directories A.names) in
         let is : x.place ≡ top.place = ap (λ (y : Entry). y.place) (p.cells e x cell) in
         elim p.place [
           | inl same ↦ absurd (later_by o.place x.place (is ∙ ap (λ (y : Attributes). y.place) (sym same)) low)
-          | inr back ↦ ap (waits A.names.removed c o.place) is ∙ back
+          | inr back ↦ ap (waits (removed_of A) c o.place) is ∙ back
         ]
 
     back_by : (c e : FileId) (o : Attributes) (x : Entry) → own_at A.names c ≡ Some o → cell_at A.names e c ≡ Some x → (t : Bool) → is_same_file c root ≡ t
-        → is_before o.place.stamp x.place.stamp ≡ true → waits A.names.removed c o.place x.place ≡ true
+        → is_before o.place.stamp x.place.stamp ≡ true → waits (removed_of A) c o.place x.place ≡ true
     back_by c e o x held cell false apart low = passed_back c e o x held cell ((k.house events s least most).passing c o held apart) low
     back_by c e o x held cell true same low =
         absurd (none-some x (sym (k.unlisted events s least most e) ∙ sym (ap (cell_at A.names e) (is_same_file-true c root same)) ∙ cell))
@@ -131,7 +131,7 @@ module _ (n : ℕ) (k : ListingsStandOn n) where
       back = λ c e x r own cell low. (
           let o = own_is (own_at A.names c) x own in
           let y = cell_is (cell_at A.names e c) r cell in
-          let P : Place → Place → Type 0 = λ p q. is_before p.stamp q.stamp ≡ true → waits A.names.removed c p q ≡ true in
+          let P : Place → Place → Type 0 = λ p q. is_before p.stamp q.stamp ≡ true → waits (removed_of A) c p q ≡ true in
           let at : P o.0.place y.0.place = back_by c e o.0 y.0 o.1 y.1 (is_same_file c root) refl in
           subst (P x) y.2 (subst (λ (p : Place). P p y.0.place) o.2 at) low);
     }

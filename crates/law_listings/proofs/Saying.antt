@@ -25,7 +25,7 @@ use Rattle.law_places.specs.pg_server.Local.{receive}
 use Rattle.theory_listing_house.specs.Listing.{cell_place}
 use Rattle.theory_listing_house.proofs.Seen.{own_is}
 use Rattle.law_places.specs.pg_store.declared.store.Store.{Store}
-use Rattle.law_places.specs.pg_store.Servers.{view_of}
+use Rattle.law_places.specs.pg_store.Seen.{removed_of, server_of, view_of}
 use Rattle.law_places.specs.pg_store.Store.{is_full, is_held}
 use Rattle.law_places.specs.pg_pieces.Done.{Done, idle}
 use Rattle.law_places.specs.pg_pieces.declared.accepting.EdgeUse.TheVariants as manner
@@ -49,7 +49,7 @@ use Rattle.law_listings.proofs.Unseen.{accept_alike, accept_server, flags_alike}
 use Rattle.law_listings.proofs.Views.{held_holds}
 
 -- one message behind others
-one_more : (z a m : Store) (work : Work) (to : ℕ) (x : Message) → SendsOthers work → MaySay m (says z x) × IsStamped z a.names.server x → WorkSays z m (post a to x work)
+one_more : (z a m : Store) (work : Work) (to : ℕ) (x : Message) → SendsOthers work → MaySay m (says z x) × IsStamped z (server_of a) x → WorkSays z m (post a to x work)
 one_more z a m work to x others h =
     let rest = others_say z m work others in
     (All-append (Says z m) work.sent (sent_to a to x ∷ []) rest.0 (All-cons (Says z m) (sent_to a to x) [] h (All-nil (Says z m))), rest.1)
@@ -73,7 +73,7 @@ module _ (a : Store) (behind : IsBehind a) (heard : Letter) (view : heard.view �
   -- grows: own places are no earlier
   record IsToldFrom (d : Done) : Type 0 where
     cells : (e c : FileId) → of_stores.cell d.store e c ≡ of_stores.cell a e c
-    removed : d.store.names.removed ≡ a.names.removed
+    removed : removed_of d.store ≡ removed_of a
     grows : (c : FileId) (q : Place) → of_stores.own a c ≡ Some q → (r : Place) × (of_stores.own d.store c ≡ Some r) × IsUpTo of_stores q r
 
   placed_from : (e : Entry) → IsToldFrom (take_told_place a e W)

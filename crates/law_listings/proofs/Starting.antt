@@ -19,7 +19,7 @@ use Rattle.law_places.specs.pg_register.declared.place.Place.{Place}
 use Rattle.law_places.specs.pg_run.Intending.{PatchesStand}
 use Rattle.theory_listing_house.specs.Listing.{cell_place, own_place}
 use Rattle.law_places.specs.pg_store.declared.store.Store.{Store}
-use Rattle.law_places.specs.pg_store.Servers.{view_of}
+use Rattle.law_places.specs.pg_store.Seen.{removed_of, view_of}
 use Rattle.law_places.specs.pg_store.Store.{is_held, take_place}
 use Rattle.law_places.specs.pg_pieces.Done.{idle}
 use Rattle.law_listings.specs.Letters.{Letter, patch_place}
@@ -37,7 +37,7 @@ pub record IsStarted (a m : Store) (f : FileId) : Type 0 where
   pub new : (c : FileId) (q : Place) → of_places.cell m f c ≡ Some q → HadPatch f a.intents c
   pub patches : (d c : FileId) (q : Place) → of_places.patch a d c ≡ Some q → AtLeast of_places q.stamp (of_places.patch m d c) ⊎ IsToldAt of_places m d c q.stamp
   pub confirms : (d c : FileId) → of_places.Confirms a d c → of_places.Confirms m d c
-  pub removed : m.names.removed ≡ a.names.removed
+  pub removed : removed_of m ≡ removed_of a
 
 pub started : (a : Store) (f : FileId) (birth : ℕ) (policy : Policy) (own : Attributes) (full : Bool) (away : is_held a f ≡ false) → IsStarted a (After a f birth policy own full away) f
 started a f birth policy own full away = record {

@@ -27,7 +27,7 @@ use Rattle.law_places.specs.pg_server.Local.{closed, intended, settled, sent_at_
 use Rattle.theory_listing_house.specs.Listing.{cell_place, own_place}
 use Rattle.law_places.specs.pg_store.declared.store.Store.{Store}
 use Rattle.law_places.specs.pg_store.Births.{birth_of}
-use Rattle.law_places.specs.pg_store.Servers.{view_of}
+use Rattle.law_places.specs.pg_store.Seen.{view_of}
 use Rattle.law_places.specs.pg_store.Store.{is_held}
 use Rattle.law_places.specs.pg_store.Together.{AreTogether, birth_at}
 use Rattle.law_places.specs.pg_pieces.Done.{Done}

@@ -33,6 +33,7 @@ use Rattle.law_places.specs.pg_store.declared.store.Store.{Store}
 use Rattle.law_places.specs.pg_store.Beginning.{with_intents}
 use Rattle.law_places.specs.pg_store.Births.{fill_at, has_birth, is_pending, wish_at, with_wishes}
 use Rattle.law_places.specs.pg_store.Links.{is_linked, is_new_link, knows_later, link, put_link, unlink}
+use Rattle.law_places.specs.pg_store.Seen.{server_of}
 use Rattle.law_places.specs.pg_store.Store.{is_new_version, is_newer_flag, put_flag, put_version, take_flag, take_version, with_names}
 use Rattle.law_places.specs.pg_store.Wishes.{aim_wish}
 use Rattle.law_places.specs.pg_pieces.declared.accepting.EdgeUse.{EdgeUse}
@@ -71,15 +72,15 @@ accept_alike a ends way work =
     (chosen P (knows_later a ends.file work.from ends.sender) (idle a work) (met a ends way work) (Alike-refl a) (met_alike a ends way work)) (Alike-refl a)
 
 -- it is the same server
-met_server : (a : Store) (ends : Ends) (way : EdgeUse) (work : Work) → (met a ends way work).store.names.server ≡ a.names.server
+met_server : (a : Store) (ends : Ends) (way : EdgeUse) (work : Work) → server_of (met a ends way work).store ≡ server_of a
 met_server a ends manner.Makes work =
-    chosen (λ (b : Store). b.names.server ≡ a.names.server) (is_new_link a ends.file work.from ends.sender) (put_link a ends.file work.from ends.sender) a refl refl
+    chosen (λ (b : Store). server_of b ≡ server_of a) (is_new_link a ends.file work.from ends.sender) (put_link a ends.file work.from ends.sender) a refl refl
 met_server a ends manner.Needs work = refl
 met_server a ends manner.Answers work = refl
 
-pub accept_server : (a : Store) (ends : Ends) (way : EdgeUse) (work : Work) → (accept a ends way work).store.names.server ≡ a.names.server
+pub accept_server : (a : Store) (ends : Ends) (way : EdgeUse) (work : Work) → server_of (accept a ends way work).store ≡ server_of a
 accept_server a ends way work =
-    let P : Done → Type 0 = λ d. d.store.names.server ≡ a.names.server in
+    let P : Done → Type 0 = λ d. server_of d.store ≡ server_of a in
     chosen P (has_birth a ends.file ends.receiver) _ (idle a (with_gone a ends way work))
     (chosen P (knows_later a ends.file work.from ends.sender) (idle a work) (met a ends way work) refl (met_server a ends way work)) refl
 

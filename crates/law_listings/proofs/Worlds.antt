@@ -19,7 +19,7 @@ use Rattle.law_places.specs.pg_register.declared.place.Place.{Place}
 use Rattle.law_places.specs.pg_register.Flag.{is_removed}
 use Rattle.law_places.specs.pg_run.Journal.{removed_in}
 use Rattle.law_places.specs.pg_store.declared.store.Store.{Store}
-use Rattle.law_places.specs.pg_store.Servers.{view_of}
+use Rattle.law_places.specs.pg_store.Seen.{view_of}
 use Rattle.law_listings.specs.Letters.{Letter, Saying, letter, of_stores, says}
 use Rattle.law_listings.proofs.Events.{SaysOf}
 

@@ -22,7 +22,7 @@ use Rattle.law_places.specs.pg_server.Local.{effect}
 use Rattle.theory_listing_house.specs.Listing.{Beside, listing_of}
 use Rattle.law_places.specs.pg_store.declared.store.Store.{Store}
 use Rattle.law_places.specs.pg_store.Births.{birth_of}
-use Rattle.law_places.specs.pg_store.Servers.{view_of}
+use Rattle.law_places.specs.pg_store.Seen.{view_of}
 use Rattle.law_places.specs.pg_store.Together.{IsOver}
 use Rattle.law_places.specs.pg_run.Journal.{removals}
 use Rattle.law_places.specs.pg_run.Run.{Taking, World, is_live, next, start, taking_in, world_after}

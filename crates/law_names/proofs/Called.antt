@@ -5,6 +5,7 @@ use Rattle.law_passing.specs.pg_msg.Work.{new_work}
 use Rattle.law_passing.specs.pg_call.declared.call.Call.{Call}
 use Rattle.law_passing.specs.pg_call.declared.call.Call.TheVariants as call
 use Rattle.law_passing.specs.pg_store.declared.store.Store.{Store}
+use Rattle.law_passing.specs.pg_store.Seen.{removed_of}
 use Rattle.law_passing.specs.pg_checks.Answer.{Answer}
 use Rattle.law_passing.specs.pg_calls.Calls.{do_call}
 use Rattle.law_passing.specs.pg_calls.Forgetting.{lost_at}
@@ -32,7 +33,7 @@ module _ (removed : List ℕ) (p : Told) (a : Store) (now : List Take) (k : Goes
 
   -- in the view that the call leaves
   abbrev CallIs : Call → Type 0
-  CallIs c = Goes (Does c).store.names.removed (Does c).store.names (Brought c)
+  CallIs c = Goes (removed_of (Does c).store) (Does c).store.names (Brought c)
 
   -- a call that changes no view
   kept : (c : Call) → Goes removed (Does c).store.names (Brought c) → CallIs c

@@ -39,6 +39,7 @@ use Rattle.law_passing.specs.pg_store.declared.store.Store.{Store}
 use Rattle.law_passing.specs.pg_store.declared.wishes.Wish.{Wish}
 use Rattle.law_passing.specs.pg_store.Beginning.{patches_of}
 use Rattle.law_passing.specs.pg_store.Births.{birth_of, draw_birth, with_birth, with_wish}
+use Rattle.law_passing.specs.pg_store.Seen.{server_of}
 use Rattle.law_passing.specs.pg_store.Store.{is_held}
 use Rattle.law_passing.specs.pg_pieces.Done.{Done, idle}
 use Rattle.law_passing.specs.pg_pieces.Golds.{is_gold}
@@ -225,7 +226,7 @@ module _ (removed : List ℕ) (p : Told) (a : Store) (now : List Take) (k : Goes
   demoted : (f : FileId) → DoneIs removed now (lowered a f W)
   demoted f =
       decided (DoneIs removed now) (is_gold a f) (lower_flag a f W) (idle a W)
-      (λ gold. flag_made removed now (idle a W) k f (gold_held a.names f a.names.server (birth_of a f) (own_at a.names f) refl gold) (own_next a f false)) (λ none. k)
+      (λ gold. flag_made removed now (idle a W) k f (gold_held a.names f (server_of a) (birth_of a f) (own_at a.names f) refl gold) (own_next a f false)) (λ none. k)
 
   leaving_goes : (f : FileId) (o : Option Flag) → AnswerIs (leaving a f W o)
   leaving_goes f None = k

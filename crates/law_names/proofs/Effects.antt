@@ -11,6 +11,7 @@ use Rattle.law_passing.specs.pg_names.Names.{NamesValue}
 use Rattle.law_passing.proofs.pg_house.Truths.{chosen_false, chosen_true}
 use Rattle.law_passing.proofs.theory_flood_pieces.Choices.{chosen}
 use Rattle.law_passing.specs.pg_store.declared.store.Store.{Store}
+use Rattle.law_passing.specs.pg_store.Seen.{removed_of}
 use Rattle.law_passing.specs.pg_store.Store.{is_before_clock_end}
 use Rattle.law_passing.specs.pg_pieces.Done.{Done, idle}
 use Rattle.law_passing.specs.pg_cells.Ticks.{tick}
@@ -72,7 +73,7 @@ abbrev pub IsApart : Store → Asked → List Take → Input → List Update →
 IsApart a wants takes asked all =
     (us : List Update) → ((u : Update) → Among u us → Among u all) → AreApart (map take_of us ++ took_first a wants takes asked)
 
-module _ (p : Told) (a : Store) (wants : Asked) (takes : List Take) (k : Goes a.names.removed a.names takes) (ready : IsReady p a) (ids : (kind : Kind) → IsNewId a (next_id a kind)) where
+module _ (p : Told) (a : Store) (wants : Asked) (takes : List Take) (k : Goes (removed_of a) a.names takes) (ready : IsReady p a) (ids : (kind : Kind) → IsNewId a (next_id a kind)) where
   -- who is removed then
   abbrev Gone : Input → List ℕ
   Gone asked = removed_then a asked
@@ -91,23 +92,23 @@ module _ (p : Told) (a : Store) (wants : Asked) (takes : List Take) (k : Goes a.
   first_goes (input.Call moment c) good going =
       let x = do_call a c (new_work moment 0) in
       put_together x.store.names (made_takes a (input.Call moment c)) (came a wants (input.Call moment c)) takes
-      (call_goes a.names.removed p a takes k ready ids moment c)
+      (call_goes (removed_of a) p a takes k ready ids moment c)
   first_goes (input.Tick moment word) good going =
       let w = new_work moment 0 in
       let free = without_sources a in
-      let P : Done → Type 0 = λ d. Goes d.store.names.removed d.store.names ((map take_of d.work.made ++ []) ++ takes) in
-      let Q : List Update → Type 0 = λ us. Goes a.names.removed a.names ((map take_of us ++ []) ++ takes) in
+      let P : Done → Type 0 = λ d. Goes (removed_of d.store) d.store.names ((map take_of d.work.made ++ []) ++ takes) in
+      let Q : List Update → Type 0 = λ us. Goes (removed_of a) a.names ((map take_of us ++ []) ++ takes) in
       chosen P (is_before_clock_end a) (ticked a word w) (idle a w) (subst Q (sym (tick_walk_made free word (ask_all free (tick free w)))) k) k
   first_goes (input.Arrival packet) good going =
       let w = new_work 0 packet.from in
       let d = receive a packet.message w in
       let is : first_effect a (input.Arrival packet) ≡ d = chosen_true (is_heard a packet) d (idle a w) going in
       let old = without_gone (gone_by a packet.from packet.message) takes in
-      let P : Done → Type 0 = λ e. Goes e.store.names.removed e.store.names ((map take_of e.work.made ++ carried a wants packet.from packet.message) ++ old) in
+      let P : Done → Type 0 = λ e. Goes (removed_of e.store) e.store.names ((map take_of e.work.made ++ carried a wants packet.from packet.message) ++ old) in
       let come = carried a wants packet.from packet.message in
       subst P (sym is) (put_together d.store.names (map take_of d.work.made) come old
-      (goes_itself a.names.removed d.store.names (map take_of d.work.made ++ (come ++ old))
-      (message_goes a.names.removed p a takes k ready packet.from wants packet.message good)))
+      (goes_itself (removed_of a) d.store.names (map take_of d.work.made ++ (come ++ old))
+      (message_goes (removed_of a) p a takes k ready packet.from wants packet.message good)))
   first_goes input.Restart good going = k
 
   -- where nothing takes effect names stay
@@ -128,7 +129,7 @@ module _ (p : Told) (a : Store) (wants : Asked) (takes : List Take) (k : Goes a.
       closed_goes (Gone asked) (reply_to a asked) (first_effect a asked) (took_first a wants takes asked) (first_goes asked good e) (apart refl)
   by_test asked false e good apart =
       let s = (first_effect a asked).store.names in
-      goes_itself a.names.removed s takes (goes_on a.names.removed a.names s takes (still asked e) k)
+      goes_itself (removed_of a) s takes (goes_on (removed_of a) a.names s takes (still asked e) k)
 
   -- AN INPUT
   pub input_goes : (asked : Input) → IsInputGood p asked → (takes_effect a asked ≡ true → IsApart a wants takes asked (effect a asked).out.made)

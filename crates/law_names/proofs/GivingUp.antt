@@ -11,6 +11,7 @@ use Rattle.law_passing.specs.pg_names.Names.{NamesValue, remove_server}
 use Rattle.law_passing.proofs.theory_flood_pieces.Choices.{chosen}
 use Rattle.law_passing.specs.pg_lookup.declared.paths.LookupError.{LookupError}
 use Rattle.law_passing.specs.pg_store.declared.store.Store.{Store}
+use Rattle.law_passing.specs.pg_store.Seen.{removed_of}
 use Rattle.law_passing.specs.pg_store.Views.{enter}
 use Rattle.law_passing.proofs.pg_store.Entered.{enter_names}
 use Rattle.law_passing.specs.pg_intentions.Inviting.{invite_along, invite_each, invite_of, invites, loose_edge}
@@ -52,7 +53,7 @@ goes_without removed s now server k = record {
 }
 
 pub goes_entered : (removed : List ℕ) (a : Store) (now : List Take) (server : ℕ) → Goes removed a.names now
-    → Goes (enter a server).names.removed (enter a server).names now
+    → Goes (removed_of (enter a server)) (enter a server).names now
 goes_entered removed a now server k =
     let P : NamesValue → Type 0 = λ s. Goes s.removed s now in
     subst P (sym (enter_names a server)) (goes_without removed a.names now server k)
@@ -66,7 +67,7 @@ module _ (removed : List ℕ) (p : Told) (a : Store) (now : List Take) (k : Goes
     Asked o = answered a W o (λ found. answer (enter_view a server W) reply.Done)
 
     abbrev GoesAs : Answer → Type 0
-    GoesAs x = Goes x.store.names.removed x.store.names (map take_of x.work.made ++ (begun_by (Some x.reply) ++ now))
+    GoesAs x = Goes (removed_of x.store) x.store.names (map take_of x.work.made ++ (begun_by (Some x.reply) ++ now))
 
     entered_made : (enter_view a server W).work.made ≡ []
     entered_made = let b = enter a server in invites_made (keys_of b.names.held) b (doubt_all b W)
@@ -78,5 +79,5 @@ module _ (removed : List ℕ) (p : Told) (a : Store) (now : List Take) (k : Goes
         goes_itself removed x.store.names (map take_of x.work.made ++ (begun_by (Some x.reply) ++ now)) (denied removed p a now k ready ids moment why)
     giveup_goes (Ok found) =
         let b = enter a server in
-        let P : List Update → Type 0 = λ us. Goes b.names.removed b.names (map take_of us ++ now) in
+        let P : List Update → Type 0 = λ us. Goes (removed_of b) b.names (map take_of us ++ now) in
         subst P (sym entered_made) (goes_entered removed a now server k)

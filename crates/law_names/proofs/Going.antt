@@ -16,6 +16,7 @@ use Rattle.law_passing.specs.theory_flood_pieces.Whole.{AreOrderly}
 use Rattle.law_passing.proofs.theory_flood_pieces.Choices.{chosen}
 use Rattle.law_passing.proofs.theory_flood_pieces.Orderly.{orderly_entry, orderly_flag, orderly_place, orderly_raised}
 use Rattle.law_passing.specs.pg_store.declared.store.Store.{Store}
+use Rattle.law_passing.specs.pg_store.Seen.{removed_of}
 use Rattle.law_passing.specs.pg_store.Store.{is_new_version, is_newer_entry, is_newer_flag, is_newer_place, put_entry, put_flag, put_place, put_version, take_entry, take_flag, take_place, take_version}
 use Rattle.law_passing.specs.pg_run.Took.{Take, entry_takes}
 use Rattle.law_passing.specs.pg_run.Took.Take.{Began, TookFlag, TookPlace, TookVersion}
@@ -52,7 +53,7 @@ module _ (removed : List ℕ) where
       let frame = update_frame a.names f (with_place p) in
       from_orderly (take_place a f p).names (TookPlace Itself f p ∷ now) (taken_place a f held.0 held.1 p now k.tells)
       (chosen (λ (b : Store). AreOrderly b.names) (is_newer_place a f p) (put_place a f p) a (orderly_place a.names f held.0 held.1 o p) o)
-      (chosen (λ (b : Store). b.names.removed ≡ removed) (is_newer_place a f p) (put_place a f p) a (frame.removed ∙ k.same_removed) k.same_removed)
+      (chosen (λ (b : Store). removed_of b ≡ removed) (is_newer_place a f p) (put_place a f p) a (frame.removed ∙ k.same_removed) k.same_removed)
 
   pub goes_flag : (a : Store) (now : List Take) → Is a.names now → (f : FileId) → IsHeld a.names f → (g : Flag)
       → Is (take_flag a f g).names (TookFlag Itself f g ∷ now)
@@ -61,7 +62,7 @@ module _ (removed : List ℕ) where
       let frame = update_frame a.names f (with_flag g) in
       from_orderly (take_flag a f g).names (TookFlag Itself f g ∷ now) (taken_flag a f held.0 held.1 g now k.tells)
       (chosen (λ (b : Store). AreOrderly b.names) (is_newer_flag a f g) (put_flag a f g) a (orderly_flag a.names f held.0 held.1 o g) o)
-      (chosen (λ (b : Store). b.names.removed ≡ removed) (is_newer_flag a f g) (put_flag a f g) a (frame.removed ∙ k.same_removed) k.same_removed)
+      (chosen (λ (b : Store). removed_of b ≡ removed) (is_newer_flag a f g) (put_flag a f g) a (frame.removed ∙ k.same_removed) k.same_removed)
 
   pub goes_entry : (a : Store) (now : List Take) → Is a.names now → (d : FileId) → IsHeld a.names d → is_dir d ≡ true → (e : Entry) → IsByServer e.flags
       → Is (take_entry a d e).names (entry_takes d e ++ now)
@@ -70,7 +71,7 @@ module _ (removed : List ℕ) where
       let frame = update_frame a.names d (with_joined e) in
       from_orderly (take_entry a d e).names (entry_takes d e ++ now) (taken_entry a d held.0 held.1 e sorted now k.tells)
       (chosen (λ (b : Store). AreOrderly b.names) (is_newer_entry a d e) (put_entry a d e) a (orderly_entry a.names d held.0 held.1 dir o e) o)
-      (chosen (λ (b : Store). b.names.removed ≡ removed) (is_newer_entry a d e) (put_entry a d e) a (frame.removed ∙ k.same_removed) k.same_removed)
+      (chosen (λ (b : Store). removed_of b ≡ removed) (is_newer_entry a d e) (put_entry a d e) a (frame.removed ∙ k.same_removed) k.same_removed)
 
   -- a stamp is taken
   pub goes_raised : (s : NamesValue) (time : ℕ) (now : List Take) → Is s now → Is (raise s time) now

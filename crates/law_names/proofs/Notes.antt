@@ -32,6 +32,7 @@ use Rattle.law_passing.specs.pg_store.declared.store.Store.{Store}
 use Rattle.law_passing.specs.pg_store.Beginning.{with_intents}
 use Rattle.law_passing.specs.pg_store.Births.{birth_of, fill_at, has_birth, is_pending, wish_at, with_wishes}
 use Rattle.law_passing.specs.pg_store.Links.{is_clean, is_linked, is_new_link, knows_later, link, put_link, unlink}
+use Rattle.law_passing.specs.pg_store.Seen.{server_of}
 use Rattle.law_passing.specs.pg_store.Servers.{next_target}
 use Rattle.law_passing.specs.pg_store.Store.{entry_news, is_full, is_held, is_new_version, is_newer_flag, is_newer_place, replica_at}
 use Rattle.law_passing.specs.pg_store.Wishes.{aim_wish}
@@ -187,8 +188,8 @@ walk_still a ends origin birth hops word w =
     let edges = onward a ends.file w.from origin in
     let gone = walked a ends origin birth hops word edges w in
     let s = linked_still a ends.file origin birth w in
-    chosen (IsStill a w) (is_accepted a w.from manner.Needs ends) (cond (origin == a.names.server) (idle a w) gone) (accept a ends manner.Needs w)
-    (chosen (IsStill a w) (origin == a.names.server) (idle a w) gone (refl, refl)
+    chosen (IsStill a w) (is_accepted a w.from manner.Needs ends) (cond (origin == server_of a) (idle a w) gone) (accept a ends manner.Needs w)
+    (chosen (IsStill a w) (origin == server_of a) (idle a w) gone (refl, refl)
     (chosen (IsStill a w) (goes_on hops edges) (idle a (walk_on a ends.file origin birth hops word edges w)) (meet_origin a ends.file origin birth w)
     (refl, along_made a ends.file origin birth (hops - 1) (word / length edges) w (slice_get edges (word % length edges))) (s.0, s.1)))
     (accepted_still a ends manner.Needs w)
@@ -196,7 +197,7 @@ walk_still a ends origin birth hops word w =
 from_made : (a : Store) (word : ℕ) (w : Work) (o : Option FileId) → (walk_from a word w o).made ≡ w.made
 from_made a word w None = refl
 from_made a word w (Some f) =
-    along_made a f a.names.server (birth_of a f) most_hops (word / length (edges_of a f)) w (slice_get (edges_of a f) (word % length (edges_of a f)))
+    along_made a f (server_of a) (birth_of a f) most_hops (word / length (edges_of a f)) w (slice_get (edges_of a f) (word % length (edges_of a f)))
 
 pub tick_walk_made : (a : Store) (word : ℕ) (w : Work) → (walk_of_tick a word w).made ≡ w.made
 tick_walk_made a word w =

@@ -7,6 +7,7 @@ use Rattle.law_passing.specs.pg_msg.declared.update.Update.TheVariants as update
 use Rattle.law_passing.specs.pg_event.declared.event.Event.{Event}
 use Rattle.law_passing.specs.pg_event.declared.entry.VoidCause.{VoidCause}
 use Rattle.law_passing.specs.pg_store.declared.store.Store.{Store}
+use Rattle.law_passing.specs.pg_store.Seen.{removed_of}
 use Rattle.law_passing.specs.pg_server.declared.input.Input.{Input}
 use Rattle.law_passing.specs.pg_server.declared.input.Input.TheVariants as input
 use Rattle.law_passing.specs.pg_server.Local.{effect, takes_effect}
@@ -17,7 +18,7 @@ use Rattle.law_passing.specs.pg_run.Laws.{NamesMerge}
 use Rattle.law_passing.specs.pg_run.Passed.{passed, passed_with}
 use Rattle.law_passing.specs.pg_run.Run.{Taking, World, brought, effect_step, first_made, idle_step, made_behind, made_takes, removed_then, run, start, taking_in, took_after, took_first, world_after}
 use Rattle.law_passing.specs.pg_run.Took.{Take, take_of, without_gone}
-use Rattle.law_passing.proofs.pg_run.Frame.{Acts, HasCome, holds_in_runs, next_is, pair_after, run_more}
+use Rattle.law_passing.proofs.pg_run.Frame.{Acts, HasCome, holds_in_runs, next_is, no_server_comes, pair_after, run_more}
 use Rattle.law_passing.proofs.pg_run.Lists.{among_back, among_front}
 use Rattle.law_passing.proofs.pg_run.Makes.{is_made_in_parts}
 use Rattle.law_names.specs.Goes.{Goes}
@@ -128,12 +129,12 @@ module _ (n : ℕ) (w : World) (event : Event) (s : ℕ) (asked : Input) (at : A
     end_goes = input_goes (of_run n w) A V T k.goes (ready_of n w on s at) (on.ids s at.0 at.1) asked good (λ going. apart)
 
     -- the server behind it
-    acted : Goes (effect A asked).store.names.removed (effect A asked).store.names (took_after A V T asked)
+    acted : Goes (removed_of (effect A asked).store) (effect A asked).store.names (took_after A V T asked)
     acted = record { tells = end_goes.tells; dirs = end_goes.dirs; last = end_goes.last; same_removed = refl }
 
     pub merged_then : ((t : ℕ) → 1 ≤ t → t ≤ n → IsMerged n w t) → (t : ℕ) → 1 ≤ t → t ≤ n → IsMerged n After t
     merged_then all t least most =
-        let P : ℕ → Store → List Take → Type 0 = λ i b taken. 1 ≤ i → i ≤ n → Goes b.names.removed b.names taken × AreTakesTold Then taken in
+        let P : ℕ → Store → List Take → Type 0 = λ i b taken. 1 ≤ i → i ≤ n → Goes (removed_of b) b.names taken × AreTakesTold Then taken in
         let step = effect_step w event s asked in
         let r = pair_after P w.stores w.took s (effect A asked).store (took_after A V T asked)
         (λ i l m. let x = all i l m in (x.goes, later_told n w After step.entry refl (w.took i) x.told)) (λ l m. (acted, end_told)) t least most in
@@ -164,7 +165,12 @@ module _ (n : ℕ) (all : (events : List Event) → StandsOn n (run n events)) w
   pub merged_run : (events : List Event) → AreMerged n (run n events)
   merged_run events =
       holds_in_runs n (AreMerged n)
-      (record { first = λ s least most. start_merged n s; idle = idle_merged; acts = acts_merged })
+      (record {
+        first = λ s least most. start_merged n s;
+        idle = idle_merged;
+        comes = λ past event server is k. absurd (no_server_comes event server is);
+        acts = acts_merged;
+      })
       events
 
   -- THE MERGE OF NAMES

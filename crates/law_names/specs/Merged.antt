@@ -9,6 +9,7 @@ use Rattle.law_passing.specs.pg_register.declared.place.Place.{Place}
 use Rattle.law_passing.specs.pg_event.declared.event.Event.{Event}
 use Rattle.law_passing.specs.pg_store.declared.store.Store.{Store}
 use Rattle.law_passing.specs.pg_store.Beginning.{patches_of}
+use Rattle.law_passing.specs.pg_store.Seen.{removed_of}
 use Rattle.law_passing.specs.pg_store.Store.{is_held}
 use Rattle.law_passing.specs.pg_calls.Naming.{next_id}
 use Rattle.law_passing.specs.pg_run.Intending.{IntendsInOrder, IntentionsAreInOrder}
@@ -54,7 +55,7 @@ abbrev pub AreTakesTold : Told → List Take → Type 0
 AreTakesTold p takes = (x : Take) → Among x takes → IsTakeTold p x
 
 pub record IsMerged (servers : ℕ) (w : World) (s : ℕ) : Type 0 where
-  pub goes : Goes (w.stores s).names.removed (w.stores s).names (w.took s)
+  pub goes : Goes (removed_of (w.stores s)) (w.stores s).names (w.took s)
   pub told : AreTakesTold (of_run servers w) (w.took s)
 
 abbrev pub AreMerged : ℕ → World → Type 0

@@ -16,7 +16,8 @@ use Rattle.pg_run.specs.pg_announced.Announced.{released}
 use Rattle.pg_run.specs.pg_call.declared.reply.Reply.{Reply}
 use Rattle.pg_run.specs.pg_store.declared.store.Store.{Store}
 use Rattle.pg_run.specs.pg_store.Births.{birth_of}
-use Rattle.pg_run.specs.pg_store.Servers.{is_live_other, view_of}
+use Rattle.pg_run.specs.pg_store.Seen.{server_of, view_of}
+use Rattle.pg_run.specs.pg_store.Servers.{is_live_other}
 use Rattle.pg_run.specs.pg_store.Store.{is_before_clock_end}
 use Rattle.pg_run.proofs.pg_store.Aiming.{unwished_as_before}
 use Rattle.pg_run.proofs.pg_store.Given.{births_as_before}
@@ -49,15 +50,15 @@ IsAskable p a (input.Arrival packet) = IsSaidOfMessage p packet.message
 IsAskable p a input.Restart = Unit {0}
 
 -- who is heard is another server
-heard_other : (n s t : ℕ) (a : Store) → a.servers ≡ n → a.names.server ≡ s → is_live_other a t ≡ true → IsOther n s t
+heard_other : (n s t : ℕ) (a : Store) → a.servers ≡ n → server_of a ≡ s → is_live_other a t ≡ true → IsOther n s t
 heard_other n s t a servers server h =
     let one = and_parts (nat_le 1 t) _ h in
     let two = and_parts (nat_le t a.servers) _ one.1 in
-    let three = and_parts (not (t == a.names.server)) _ two.1 in
+    let three = and_parts (not (t == server_of a)) _ two.1 in
     record {
       least = leb-true 1 t one.0;
       most = subst (λ (m : ℕ). t ≤ m) servers (leb-true t a.servers two.0);
-      apart = λ same. not_equal t a.names.server three.0 (same ∙ sym server);
+      apart = λ same. not_equal t (server_of a) three.0 (same ∙ sym server);
     }
 
 module _ (p : Saying) (c : IsClosed p) (n s : ℕ) (mine : IsMember p n s) (a : Store) (k : IsAtRest p n s a) where
@@ -80,11 +81,11 @@ module _ (p : Saying) (c : IsClosed p) (n s : ℕ) (mine : IsMember p n s) (a : 
 
   -- a walk begins
   walk_goes : (d : Done) (f : FileId) (rest : ℕ) (o : Option Edge) → Far d
-      → Far (idle d.store (walk_along d.store f d.store.names.server (birth_of d.store f) most_hops rest d.work o))
+      → Far (idle d.store (walk_along d.store f (server_of d.store) (birth_of d.store f) most_hops rest d.work o))
   walk_goes d f rest None h = h
   walk_goes d f rest (Some e) h =
       let b = d.store in
-      so_tail p c n s d e.peer (message.Walk (ends_to b f e.birth) b.names.server (birth_of b f) most_hops rest) h
+      so_tail p c n s d e.peer (message.Walk (ends_to b f e.birth) (server_of b) (birth_of b f) most_hops rest) h
       (subst p.IsServer (sym h.store.whole.server) mine.named)
 
   walk_begins : (d : Done) (word : ℕ) (o : Option FileId) → Far d → Far (idle d.store (walk_from d.store word d.work o))

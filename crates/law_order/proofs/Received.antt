@@ -27,6 +27,7 @@ use Rattle.pg_run.specs.pg_store.declared.store.Store.{Store}
 use Rattle.pg_run.specs.pg_store.Beginning.{let_go, with_intents}
 use Rattle.pg_run.specs.pg_store.Births.{birth_of, with_wishes}
 use Rattle.pg_run.specs.pg_store.Links.{unlink}
+use Rattle.pg_run.specs.pg_store.Seen.{server_of}
 use Rattle.pg_run.specs.pg_store.Store.{acknowledge, keep_delta, replica_at, with_names}
 use Rattle.pg_run.specs.pg_store.Wishes.{aim_wish}
 use Rattle.pg_run.proofs.pg_store.Aiming.{aim_births, aimed_births}
@@ -130,10 +131,10 @@ module _ (p : Saying) (c : IsClosed p) (n s : ℕ) (mine : IsMember p n s) where
         found_has (IsIntended p) (intent_key.Leave ends.file) (intent.Leave ends.file w.from ends.sender) a.intents first.store.named.intents may.answered.stood
 
     -- the origin of a walk that goes on is another server
-    met : (ends : Ends) (origin birth hops word : ℕ) → m ≡ message.Walk ends origin birth hops word → (origin == a.names.server) ≡ false → IsOther n s origin
+    met : (ends : Ends) (origin birth hops word : ℕ) → m ≡ message.Walk ends origin birth hops word → (origin == server_of a) ≡ false → IsOther n s origin
     met ends origin birth hops word is apart =
         mine.others origin (subst (IsSaidOfMessage p) is said)
-        (λ same. false≢true (sym apart ∙ eq-eqb origin a.names.server (same ∙ sym first.store.whole.server)))
+        (λ same. false≢true (sym apart ∙ eq-eqb origin (server_of a) (same ∙ sym first.store.whole.server)))
 
     keeps_far : Keeps a w m Far
     keeps_far = record {

@@ -18,6 +18,7 @@ use Rattle.pg_run.specs.theory_flood.World.{after}
 use Rattle.pg_run.proofs.theory_flood.Flood.{after_itself, here}
 use Rattle.pg_run.specs.pg_store.declared.store.Store.{Store}
 use Rattle.pg_run.specs.pg_store.Births.{fill_at}
+use Rattle.pg_run.specs.pg_store.Seen.{server_of}
 use Rattle.pg_run.specs.pg_store.Store.{is_held}
 use Rattle.pg_run.proofs.pg_store.InTime.{files_in_time}
 use Rattle.pg_run.specs.pg_intentions.Fills.{files_to_fill, is_in}
@@ -33,7 +34,7 @@ use Rattle.pg_run.specs.theory_flood_pieces.Whole.{IsWhole}
 use Rattle.pg_run.proofs.theory_flood_pieces.Together.{own_of_held}
 use Rattle.pg_run.specs.Journal.{mail}
 use Rattle.pg_run.specs.Run.{World, effect_step, run, start, world_after}
-use Rattle.pg_run.proofs.Frame.{HasCome, holds_in_runs}
+use Rattle.pg_run.proofs.Frame.{HasCome, holds_in_runs, no_server_comes}
 use Rattle.law_order.specs.Laws.{files_of}
 use Rattle.law_order.specs.Named.{IsMade, naming}
 use Rattle.law_order.specs.Saying.{IsSaidOfMessage}
@@ -60,7 +61,7 @@ module _ (n s : ℕ) (a : Store) (files : ℕ → ℕ) (least : 1 ≤ s) (mine :
 
   pub not_made : IsMade n files Id → ⊥
   not_made (inl e) =
-      let zero_is : a.names.server ≡ 0 = ap (λ (x : FileId). x.server) e in
+      let zero_is : server_of a ≡ 0 = ap (λ (x : FileId). x.server) e in
       let same = k.sound.whole.server in
       omega (arith, zero_is, same, least)
   not_made (inr b) =
@@ -95,7 +96,7 @@ module _ (n s : ℕ) (a : Store) (files : ℕ → ℕ) (least : 1 ≤ s) (mine :
   other_by : (t : Bool) → is_same_file Id root ≡ t → t ≡ false
   other_by false e = refl
   other_by true e =
-      let zero_is : a.names.server ≡ 0 = ap (λ (x : FileId). x.server) (is_same_file-true Id root e) in
+      let zero_is : server_of a ≡ 0 = ap (λ (x : FileId). x.server) (is_same_file-true Id root e) in
       let same = k.sound.whole.server in
       absurd (omega (arith, zero_is, same, least))
 
@@ -130,7 +131,7 @@ module _ (n : ℕ) (w : World) (k : AreSound n w) (s : ℕ) (least : 1 ≤ s) (m
   is_new : (x : Call) (moment : ℕ) → asked ≡ input.Call moment x → GivesNewIds (naming n Later) Here x (new_work moment 0)
   is_new x moment is going kind made =
       let rest = k.servers s in
-      let server : Here.names.server ≡ s = rest.sound.whole.server in
+      let server : server_of Here ≡ s = rest.sound.whole.server in
       let at : Later s ≡ Then.files = ap (λ (b : Store). b.files) (after_itself w.stores s Then) in
       let first : Then.files ≡ (do_call Here x (new_work moment 0)).store.files =
       ap (λ (y : Input). (effect Here y).store.files) is ∙ effect_same Here (input.Call moment x) in
@@ -198,5 +199,6 @@ sound_run n events =
         mail = All-nil (λ (m : Sent). IsSaidOfMessage (naming n (files_of (start n).stores)) m.packet.message);
       };
       idle = λ w event cause k. record { servers = k.servers; mail = k.mail };
+      comes = λ past event server is k. absurd (no_server_comes event server is);
       acts = λ before event t is act k. acted n (run n before) k t.server act.least act.most t.asked event act.came;
     }) events

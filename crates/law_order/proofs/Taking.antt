@@ -26,6 +26,7 @@ use Rattle.pg_run.specs.pg_house.Work.{note_left, state_of}
 use Rattle.pg_run.specs.pg_store.declared.store.Store.{Store}
 use Rattle.pg_run.specs.pg_store.Beginning.{with_intents}
 use Rattle.pg_run.specs.pg_store.Links.{is_new_link}
+use Rattle.pg_run.specs.pg_store.Seen.{removed_of}
 use Rattle.pg_run.specs.pg_store.Store.{entry_news, is_new_version, is_newer_flag, is_newer_place}
 use Rattle.pg_run.specs.pg_pieces.Accepting.{link_peer, with_link}
 use Rattle.pg_run.specs.pg_pieces.Done.{Done, idle}
@@ -187,7 +188,7 @@ module _ (p : Saying) (c : IsClosed p) (n s : ℕ) where
   pub so_rules : (d : Done) → SoFar d → SoFar (ruled d)
   so_rules d k =
       let behind = sound_rules p n s d.store k.store c d.work k.left in
-      let same = (house_frame d.store.names.removed d.work d.work.now (state_of d.store.names d.work) (record { removed = refl; work = sends_same d.work })).work in
+      let same = (house_frame (removed_of d.store) d.work d.work.now (state_of d.store.names d.work) (record { removed = refl; work = sends_same d.work })).work in
       record {
         store = behind.0;
         left = behind.1;

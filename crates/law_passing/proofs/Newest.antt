@@ -8,7 +8,7 @@ use Rattle.pg_run.specs.pg_register.Flag.{flag_of, is_older, join_flag, join_fla
 use Rattle.pg_run.proofs.pg_register.ByServer.{IsByServer-join_flag, IsByServer-join_flags, IsByServer-nil, flag_of-join_flag, flag_of-join_flags, same_flags}
 use Rattle.pg_run.specs.theory_flood_pieces.UpTo.{IsFlagKnownBy, IsFlagUpTo}
 use Rattle.pg_run.proofs.theory_flood_pieces.UpTo.{known_further}
-use Rattle.pg_run.proofs.theory_flood_pieces.Flags.{flag_joined, flag_there, flags_joined, flags_there, server_of}
+use Rattle.pg_run.proofs.theory_flood_pieces.Flags.{flag_joined, flag_server, flag_there, flags_joined, flags_there}
 use Rattle.law_passing.specs.Newest.{AreNewest, HaveOwnNumbers}
 
 -- ---- there is one list of the newest
@@ -31,11 +31,11 @@ module _ (P : Flag → Type 0) (one : HaveOwnNumbers P) where
 
   found_by : (fs gs : List Flag) → AreNewest P fs → AreNewest P gs → (n : ℕ) (o q : Option Flag) → flag_of fs n ≡ o → flag_of gs n ≡ q → o ≡ q
   found_by fs gs k l n None None h i = refl
-  found_by fs gs k l n None (Some g) h i = absurd (known_at fs g n None k (l.there n g i) (server_of gs n g i) h)
-  found_by fs gs k l n (Some f) None h i = absurd (known_at gs f n None l (k.there n f h) (server_of fs n f h) i)
+  found_by fs gs k l n None (Some g) h i = absurd (known_at fs g n None k (l.there n g i) (flag_server gs n g i) h)
+  found_by fs gs k l n (Some f) None h i = absurd (known_at gs f n None l (k.there n f h) (flag_server fs n f h) i)
   found_by fs gs k l n (Some f) (Some g) h i =
-      ap Some (one_flag f g (k.there n f h) (l.there n g i) (known_at gs f n (Some g) l (k.there n f h) (server_of fs n f h) i)
-      (known_at fs g n (Some f) k (l.there n g i) (server_of gs n g i) h))
+      ap Some (one_flag f g (k.there n f h) (l.there n g i) (known_at gs f n (Some g) l (k.there n f h) (flag_server fs n f h) i)
+      (known_at fs g n (Some f) k (l.there n g i) (flag_server gs n g i) h))
 
   pub newest_once : (fs gs : List Flag) → AreNewest P fs → AreNewest P gs → fs ≡ gs
   newest_once fs gs k l = same_flags fs gs k.sorted l.sorted (λ n. found_by fs gs k l n (flag_of fs n) (flag_of gs n) refl refl)

@@ -16,6 +16,7 @@ use Rattle.pg_run.specs.pg_server.declared.input.Input.{Input}
 use Rattle.pg_run.specs.pg_server.declared.input.Input.TheVariants as input
 use Rattle.pg_run.specs.pg_server.Local.{Effect, closed, effect, finished, first_effect, intended, is_heard, receive, reply_to, settled, takes_effect, ticked, without_sources, without_volatile}
 use Rattle.pg_run.specs.pg_store.declared.store.Store.{Store}
+use Rattle.pg_run.specs.pg_store.Seen.{server_of}
 use Rattle.pg_run.specs.pg_store.Store.{is_before_clock_end}
 use Rattle.pg_run.specs.pg_pieces.Done.{Done, idle}
 use Rattle.pg_run.specs.pg_cells.Ticks.{tick}
@@ -84,7 +85,7 @@ module _ (P : FileId → Place → Type 0) (blanks : (f : FileId) → is_same_fi
 
   -- ---- an input
 
-  module _ (known : AreKnown P a) (timed : AreTimed a.names) (server : a.names.server ≡ s) (stays : RootStays a) where
+  module _ (known : AreKnown P a) (timed : AreTimed a.names) (server : server_of a ≡ s) (stays : RootStays a) where
     begins : (now from : ℕ) → Fine (idle a (new_work now from))
     begins now from = record {
       known = known;

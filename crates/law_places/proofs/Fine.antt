@@ -30,6 +30,7 @@ use Rattle.pg_run.specs.pg_register.declared.place.Place.{Place}
 use Rattle.pg_run.specs.pg_store.declared.store.Store.{Store}
 use Rattle.pg_run.specs.pg_store.Beginning.{with_intents}
 use Rattle.pg_run.specs.pg_store.Links.{is_linked, is_new_link, put_link, unlink}
+use Rattle.pg_run.specs.pg_store.Seen.{server_of}
 use Rattle.pg_run.specs.pg_store.Store.{is_new_version, is_newer_entry, is_newer_flag, is_newer_place, put_entry, put_flag, put_place, put_version, take_entry, take_flag, take_place, take_version, write}
 use Rattle.pg_run.specs.pg_pieces.Accepting.{link_peer}
 use Rattle.pg_run.specs.pg_pieces.Done.{Done, idle}
@@ -59,9 +60,9 @@ placed_late a f place own held later =
     let m = at_most (join_place a.names f place).last place.stamp.time in
     omega arith
 
-took_server : (a : Store) (f : FileId) (place : Place) → (take_place a f place).names.server ≡ a.names.server
+took_server : (a : Store) (f : FileId) (place : Place) → server_of (take_place a f place) ≡ server_of a
 took_server a f place =
-    chosen (λ (b : Store). b.names.server ≡ a.names.server) (is_newer_place a f place) (put_place a f place) a
+    chosen (λ (b : Store). server_of b ≡ server_of a) (is_newer_place a f place) (put_place a f place) a
     (update_frame a.names f (names.with_place place)).server refl
 
 module _ (P : FileId → Place → Type 0) where
@@ -86,7 +87,7 @@ module _ (P : FileId → Place → Type 0) where
     At d = state_of d.store.names d.work
 
     -- no place is made
-    pub same_drawn : (d e : Done) → e.store.names.server ≡ d.store.names.server → d.store.names.last ≤ e.store.names.last → e.work.made ≡ d.work.made → Fine d → IsDrawn s least (At e)
+    pub same_drawn : (d e : Done) → server_of e.store ≡ server_of d.store → d.store.names.last ≤ e.store.names.last → e.work.made ≡ d.work.made → Fine d → IsDrawn s least (At e)
     same_drawn d e server up made k =
         drawn_on s least (At d) (At e) k.drawn server up (λ f p h. subst (λ us. IsMade us f p) made h)
 

@@ -9,6 +9,7 @@ use Rattle.pg_run.specs.pg_msg.Work.{with_tail}
 use Rattle.pg_run.proofs.theory_flood_pieces.Choices.{chosen}
 use Rattle.pg_run.specs.pg_register.declared.place.Place.{Place}
 use Rattle.pg_run.specs.pg_store.Births.{birth_of}
+use Rattle.pg_run.specs.pg_store.Seen.{server_of}
 use Rattle.pg_run.specs.pg_pieces.Done.{Done, idle}
 use Rattle.pg_run.specs.pg_pieces.Posting.{sent_to}
 use Rattle.pg_run.specs.pg_repair.Fetching.{ends_to}
@@ -30,7 +31,7 @@ module _ (P : FileId → Place → Type 0) (s least : ℕ) where
   from_fine word d None k = k
   from_fine word d (Some f) k =
       let edges = edges_of d.store f in
-      along_fine f d.store.names.server (birth_of d.store f) most_hops (word / length edges) d (slice_get edges (word % length edges)) k
+      along_fine f (server_of d.store) (birth_of d.store f) most_hops (word / length edges) d (slice_get edges (word % length edges)) k
 
   pub tick_fine : (word : ℕ) (d : Done) → Fine d → Fine (idle d.store (walk_of_tick d.store word d.work))
   tick_fine word d k =

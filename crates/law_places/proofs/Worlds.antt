@@ -28,6 +28,7 @@ use Rattle.pg_run.specs.pg_server.Local.{Effect, effect}
 use Rattle.pg_run.specs.pg_store.declared.store.Store.{Store}
 use Rattle.pg_run.specs.pg_store.declared.wishes.Wish.{Wish}
 use Rattle.pg_run.specs.pg_store.Births.{fill_at, is_fill_at, is_pending, wish_at}
+use Rattle.pg_run.specs.pg_store.Seen.{server_of}
 use Rattle.pg_run.specs.pg_store.Start.{first_names, root_own}
 use Rattle.pg_run.specs.pg_store.Store.{is_held}
 use Rattle.pg_run.specs.pg_store.Wishes.{is_with_birth}
@@ -35,7 +36,7 @@ use Rattle.pg_run.proofs.pg_calls.Walked.{full_held}
 use Rattle.pg_run.specs.Intending.{HoldsBoth, IntendsInOrder, IntentionsAreInOrder}
 use Rattle.pg_run.specs.Journal.{mail}
 use Rattle.pg_run.specs.Run.{World, effect_step, idle_step, run, start, world_after}
-use Rattle.pg_run.proofs.Frame.{HasCome, holds_in_runs}
+use Rattle.pg_run.proofs.Frame.{HasCome, holds_in_runs, no_server_comes}
 use Rattle.law_places.proofs.Origins.{IsFrom, IsMade, all_made, one_behind, one_parts}
 use Rattle.law_places.proofs.Effects.{Leaves, OfInput, effect_leaves, input_further}
 use Rattle.law_places.proofs.Fine.{AreKnown}
@@ -83,7 +84,7 @@ root_stays a k = record {
 pub record AllKnown (w : World) : Type 0 where
   pub known : (s : ℕ) → AreKnown (IsFrom (all_made w.journal)) (w.stores s)
   pub timed : (s : ℕ) → AreTimed (w.stores s).names
-  pub server : (s : ℕ) → (w.stores s).names.server ≡ s
+  pub server : (s : ℕ) → server_of (w.stores s) ≡ s
   pub sent : All (OfSent (IsFrom (all_made w.journal))) (mail w.journal)
   pub each : (f : FileId) (p : Place) → IsMade (all_made w.journal) f p
       → (1 ≤ p.stamp.time) × (p.stamp.time ≤ (w.stores p.stamp.server).names.last)
@@ -177,7 +178,7 @@ module _ (w : World) (k : AllKnown w) (event : Event) (s : ℕ) (some : 1 ≤ s)
   acted = record {
     known = at_each (λ i a. AreKnown P a) left.known (λ i other. further i);
     timed = at_each (λ i a. AreTimed a.names) left.timed (λ i other. k.timed i);
-    server = at_each (λ i a. a.names.server ≡ i) left.drawn.server (λ i other. k.server i);
+    server = at_each (λ i a. server_of a ≡ i) left.drawn.server (λ i other. k.server i);
     sent = All-append (OfSent P) E.out.sent (mail w.journal) left.sent (sent_further (IsFrom Old) P up (mail w.journal) k.sent);
     each = λ f p h. each_by f p (parts f p h);
     one = λ f g p q h i e. one_by f g p q (parts f p h) (parts g q i) e;
@@ -233,6 +234,7 @@ pub run_known : (n : ℕ) → IntentionsAreInOrder n → (events : List Event) �
 run_known n order events = holds_in_runs n AllKnown (record {
   first = start_known n;
   idle = still;
+  comes = λ past event server is k. absurd (no_server_comes event server is);
   acts = λ some event t taking acts k. (
       let w = run n some in
       acted w k event t.server acts.least t.asked (order some t.server acts.least acts.most) (come_of w k t.server t.asked acts.came));

@@ -11,13 +11,13 @@ use Rattle.pg_run.specs.pg_msg.Sent.{summary}
 use Rattle.pg_run.specs.pg_names.Names.{new_names}
 use Rattle.pg_run.specs.pg_register.Place.{root}
 use Rattle.pg_run.specs.pg_store.Start.{root_own}
-use Rattle.pg_run.specs.pg_store.Servers.{view_of}
+use Rattle.pg_run.specs.pg_store.Seen.{view_of}
 use Rattle.pg_run.proofs.pg_house.Truths.{chosen}
 use Rattle.pg_run.specs.pg_server.Owing.{owed}
 use Rattle.pg_run.specs.Journal.{bag, removals}
 use Rattle.pg_run.specs.Quiet.{causes, first_of, lag, of_live}
 use Rattle.pg_run.specs.Run.{World, is_live, run, start}
-use Rattle.pg_run.proofs.Frame.{all_under_way, holds_in_runs}
+use Rattle.pg_run.proofs.Frame.{all_under_way, holds_in_runs, no_server_comes}
 use Rattle.pg_trace.specs.Suited.{SuitsCause, SuitsQuiet}
 use Rattle.law_printable.specs.Laws.{AnswersSuit, EntriesSuit, PlacesSuit}
 use Rattle.law_printable.proofs.Entries.{RunSuits, acted_suits, idle_suits, next_suits}
@@ -44,6 +44,7 @@ run_suits n events =
     holds_in_runs n RunSuits (record {
       first = start_suits n;
       idle = λ w e cause k. (idle_suits w e cause k).behind;
+      comes = λ past event server is k. absurd (no_server_comes event server is);
       acts = λ some e t taken acts k. (acted_suits n (run n some) k e t taken).behind;
     }) events
 

@@ -28,6 +28,7 @@ use Rattle.law_listings.specs.pg_replica.Replicas.{is_of_birth}
 use Rattle.law_listings.proofs.pg_replica.Growth.{cell_head, head_at as head_found}
 use Rattle.law_listings.specs.pg_store.declared.store.Store.{Store}
 use Rattle.law_listings.specs.pg_store.Cells.{cell_at, entry_cell, flag_cell, is_sure, version_cell}
+use Rattle.law_listings.specs.pg_store.Seen.{server_of}
 use Rattle.law_listings.specs.pg_store.Store.{content_of, replica_at}
 use Rattle.law_listings.specs.pg_store.Together.{IsOver}
 use Rattle.law_listings.specs.pg_server.Owing.{edge_owes, intent_owed, owed, owed_intents, owed_keys, owed_places, replica_owes}
@@ -70,7 +71,7 @@ bare_replica server r e =
 -- a server that owes nothing has no intention, no key on an edge, and holds no place back
 pub nothing_intended : (a : Store) → owed a ≡ [] → a.intents ≡ []
 nothing_intended a e =
-    map_empty (intent_owed a.names.server) a.intents (map_empty owing.Intent (owed_intents a) (both_empty _ _ e).0)
+    map_empty (intent_owed (server_of a)) a.intents (map_empty owing.Intent (owed_intents a) (both_empty _ _ e).0)
 
 no_keys : (a : Store) → owed a ≡ [] → owed_keys a ≡ []
 no_keys a e = map_empty owing.Key (owed_keys a) (both_empty _ _ (both_empty _ _ e).1).0
@@ -81,9 +82,9 @@ nothing_back a e = (both_empty _ _ (both_empty _ _ e).1).1
 bare_edges : (a : Store) (file : FileId) (x : Replica) → owed a ≡ [] → replica_at a file ≡ Some x → All IsBare x.edges
 bare_edges a file x e is =
     found_replica (λ z. All IsBare z.edges) file x a.replicas
-    (All-weaker (λ (r : FileId × Replica). replica_owes a.names.server r ≡ [])
-    (λ r. All IsBare r.1.edges) (λ r h. bare_replica a.names.server r h) a.replicas
-    (all_empty (replica_owes a.names.server) a.replicas (no_keys a e))) is
+    (All-weaker (λ (r : FileId × Replica). replica_owes (server_of a) r ≡ [])
+    (λ r. All IsBare r.1.edges) (λ r h. bare_replica (server_of a) r h) a.replicas
+    (all_empty (replica_owes (server_of a)) a.replicas (no_keys a e))) is
 
 -- ---- so the other server covers each cell
 

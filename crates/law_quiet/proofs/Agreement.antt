@@ -20,7 +20,7 @@ use Rattle.law_listings.specs.pg_register.Laws.{IsOneFlag}
 use Rattle.law_listings.specs.pg_replica.declared.replica.Replica.{Replica}
 use Rattle.law_listings.specs.pg_replica.Replicas.{or_nothing}
 use Rattle.law_listings.specs.pg_store.declared.store.Store.{Store}
-use Rattle.law_listings.specs.pg_store.Servers.{view_of}
+use Rattle.law_listings.specs.pg_store.Seen.{removed_of, view_of}
 use Rattle.law_listings.specs.pg_store.Store.{content_of, replica_at}
 use Rattle.law_listings.specs.theory_flood_pieces.UpTo.{AreFlagsUpTo, IsPlaceUpTo}
 use Rattle.law_listings.specs.theory_flood_pieces.Whole.{IsWhole}
@@ -184,7 +184,7 @@ module _ (n : ℕ) (g : AgreementIsGiven n) (events : List Event) (quiet : IsQui
   one_edge s t ls lt e = same_held s t ls lt e (turned s t e)
 
   -- all removals are known to a live server, so the other end of its edge is a live one
-  all_known : (s : ℕ) → Lives s → (A s).names.removed ≡ removals W.journal
+  all_known : (s : ℕ) → Lives s → removed_of (A s) ≡ removals W.journal
   all_known s live =
       let i = live_is n W s live in
       let all : length (removals W.journal) ≤ view_of (A s) = (let same = quiet.views s live in omega arith) in
@@ -198,7 +198,7 @@ module _ (n : ℕ) (g : AgreementIsGiven n) (events : List Event) (quiet : IsQui
       let edge = listed_edge x.edges t e.there.replica.birth e.names in
       let at = (g.views events s i.least i.most).edges file x edge.edge e.here.is edge.among in
       let gone : is_removed (removals W.journal) t ≡ false =
-      ap (λ (rs : List ℕ). is_removed rs t) (sym (all_known s live)) ∙ ap (is_removed (A s).names.removed) (sym edge.to) ∙ at in
+      ap (λ (rs : List ℕ). is_removed rs t) (sym (all_known s live)) ∙ ap (is_removed (removed_of (A s))) (sym edge.to) ∙ at in
       and_from (is_server n t) (not (is_removed (removals W.journal) t)) (server_is n t other.least other.most) (ap not gone)
 
   along : (between : List ℕ) (s t : ℕ) → Lives s → Lives t → IsChain W file s between t → HoldTheSame (A s) (A t) file

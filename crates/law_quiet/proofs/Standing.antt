@@ -21,6 +21,7 @@ use Rattle.law_listings.proofs.pg_house.Counting.{among_kept}
 use Rattle.law_listings.proofs.pg_house.Ends.{key_of_held}
 use Rattle.law_listings.proofs.pg_house.Greatest.{cell_is}
 use Rattle.law_listings.specs.pg_store.declared.store.Store.{Store}
+use Rattle.law_listings.specs.pg_store.Seen.{server_of}
 use Rattle.law_listings.specs.pg_server.Owing.{held_at, owed}
 use Rattle.law_listings.specs.pg_run.Run.{World, is_live}
 use Rattle.law_listings.proofs.pg_run.QuietAnswers.{map_empty}
@@ -31,7 +32,7 @@ use Rattle.law_quiet.proofs.Facts.{Facts, all_full}
 -- ---- nothing is held back
 
 none_owed_back : (a : Store) → owed a ≡ [] → held_back a.names ≡ []
-none_owed_back a h = map_empty (held_at a.names.server) (held_back a.names) (nothing_back a h)
+none_owed_back a h = map_empty (held_at (server_of a)) (held_back a.names) (nothing_back a h)
 
 by_dir : (s : NamesValue) (f : FileId) (own : Attributes) (d t : Bool) → is_dir f ≡ d → is_dir_back s f ≡ t → held_back s ≡ [] → own_at s f ≡ Some own → is_same_file f root ≡ false → is_held_back s.removed f own (greatest s f own (directories s)) ≡ false
 by_dir s f own false t file e none held apart = and_left (is_dir f) _ file

@@ -21,6 +21,7 @@ use Rattle.law_ticks.specs.pg_run.pg_register.declared.flag.Flag.{Flag}
 use Rattle.law_ticks.specs.pg_run.pg_register.Flag.{IsByServer, is_live_other}
 use Rattle.law_ticks.specs.pg_run.pg_store.declared.store.Store.{Store}
 use Rattle.law_ticks.specs.pg_run.pg_store.declared.wishes.Wish.{Wish}
+use Rattle.law_ticks.specs.pg_run.pg_store.Seen.{removed_of, server_of}
 use Rattle.law_ticks.specs.pg_run.pg_store.Births.{fill_at, wish_at}
 use Rattle.law_ticks.specs.pg_run.pg_store.Servers.{next_target}
 use Rattle.law_ticks.specs.pg_run.pg_checks.Asking.{cell_in, dir_by, gold_of, holder, standing, wish_by}
@@ -172,10 +173,10 @@ module _ (a : Store) (sorted : IsStrictlySortedBy file_cmp (keys_of a.names.held
   Suits = IsToldGold a file way
 
   abbrev gold : Flag → Bool
-  gold = is_live_other a.names.server a.names.removed
+  gold = is_live_other (server_of a) (removed_of a)
 
   abbrev Next : ℕ
-  Next = next_target a a.names.server
+  Next = next_target a (server_of a)
 
   abbrev Cell : Option Entry
   Cell = cell_in a.names file (dir_by a.names file way)

@@ -20,6 +20,7 @@ use Rattle.law_ticks.specs.pg_run.pg_lookup.declared.paths.Found.{Found}
 use Rattle.law_ticks.specs.pg_run.pg_lookup.declared.paths.LookupError.{LookupError}
 use Rattle.law_ticks.specs.pg_run.pg_lookup.declared.paths.LookupError.TheVariants as stop
 use Rattle.law_ticks.specs.pg_run.pg_store.declared.store.Store.{Store}
+use Rattle.law_ticks.specs.pg_run.pg_store.Seen.{server_of}
 use Rattle.law_ticks.specs.pg_run.pg_store.Store.{replica_of}
 use Rattle.law_ticks.specs.pg_run.pg_pieces.Done.{idle}
 use Rattle.law_ticks.specs.pg_run.pg_checks.Answer.{Answer, answered, deny, replied, told, unless}
@@ -109,7 +110,7 @@ module _ (store : Store) (work : Work) (why : Refusal) where
   fits ranges file =
       stops_then (IsMissing store.names) (unless (is_too_long (replica_of store file) ranges) TooLong file) _
       (stops_unless (IsMissing store.names) (is_too_long (replica_of store file) ranges) TooLong file refl)
-      (λ fit. stops_unless (IsMissing store.names) (has_many_actors (replica_of store fit) store.names.server)
+      (λ fit. stops_unless (IsMissing store.names) (has_many_actors (replica_of store fit) (server_of store))
       ManyActors fit refl)
 
   changes : (text : List ℕ) (ranges : RangesValue) → Left store work why (change store text ranges work)

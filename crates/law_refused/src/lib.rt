@@ -26,3 +26,7 @@
 mod laws;
 
 pub use laws::refusals_change_nothing;
+
+// What the crates above name through this one.
+pub use law_turns::begins::confirms_begin_only;
+pub use law_turns::intentions_begin_in_turn;

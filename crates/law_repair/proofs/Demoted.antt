@@ -23,6 +23,7 @@ use Rattle.law_full.specs.pg_pieces.Golds.{flags_of}
 use Rattle.law_full.specs.pg_pieces.Making.{lower_flag, own_next}
 use Rattle.law_full.specs.pg_store.declared.store.Store.{Store}
 use Rattle.law_full.specs.pg_store.Links.{is_clean}
+use Rattle.law_full.specs.pg_store.Seen.{removed_of}
 use Rattle.law_full.specs.pg_store.Store.{is_newer_flag, put_flag, replica_at, take_flag}
 use Rattle.law_full.specs.theory_flood_pieces.Whole.{IsWhole}
 use Rattle.law_full.proofs.theory_flood_pieces.Choices.{chosen}
@@ -36,7 +37,7 @@ use Rattle.law_repair.proofs.EventEnds.{clean_other, taken_removed}
 
 module _ (n s : ℕ) (a : Store) (file : FileId) (whole : IsWhole n s a) (x : Replica) (held : replica_at a file ≡ Some x)
     (passing : (own : Attributes) → own_at a.names file ≡ Some own → (dir : FileId) (e : Entry) → cell_at a.names dir file ≡ Some e → e.flags ≡ own.flags)
-    (g : Flag) (seen : Among g (flags_of a file)) (lives : is_live a.names.removed g ≡ true) (clean : is_clean a file g.server g.birth ≡ true) (work : Work)
+    (g : Flag) (seen : Among g (flags_of a file)) (lives : is_live (removed_of a) g ≡ true) (clean : is_clean a file g.server g.birth ≡ true) (work : Work)
     (empty : work.made ≡ []) where
   abbrev G : Flag
   G = own_next a file false
@@ -45,7 +46,7 @@ module _ (n s : ℕ) (a : Store) (file : FileId) (whole : IsWhole n s a) (x : Re
   D = lower_flag a file work
 
   abbrev pub raised : g.raised ≡ true
-  raised = (and_parts g.raised (not (is_removed a.names.removed g.server)) lives).0
+  raised = (and_parts g.raised (not (is_removed (removed_of a) g.server)) lives).0
 
   other : g.server ≢ s
   other = clean_other n s a file x whole held g.server g.birth clean
@@ -114,6 +115,6 @@ module _ (n s : ℕ) (a : Store) (file : FileId) (whole : IsWhole n s a) (x : Re
         (says_flag (UpTo file g) s a.names file G (λ same at. absurd (not_mine at)) says_before) says_before;
     there = there_after;
     live = ap (λ (rs : List ℕ). is_removed rs g.server) (taken_removed a file G)
-        ∙ not-true (is_removed a.names.removed g.server) (and_parts g.raised (not (is_removed a.names.removed g.server)) lives).1;
+        ∙ not-true (is_removed (removed_of a) g.server) (and_parts g.raised (not (is_removed (removed_of a) g.server)) lives).1;
     none = λ h there. only h (subst (Among (update.Flag file h)) made_is there);
   }

@@ -24,6 +24,7 @@ use Rattle.law_full.specs.pg_server.declared.input.Input.{Input}
 use Rattle.law_full.specs.pg_server.Local.{Effect, effect, first_effect, intended, settled, takes_effect}
 use Rattle.law_full.specs.pg_store.declared.store.Store.{Store}
 use Rattle.law_full.specs.pg_store.Links.{is_clean}
+use Rattle.law_full.specs.pg_store.Seen.{removed_of}
 use Rattle.law_full.specs.pg_store.Store.{is_newer_flag, put_flag, replica_at, take_flag, with_names}
 use Rattle.law_full.specs.theory_flood_pieces.Whole.{IsWhole}
 use Rattle.law_full.proofs.theory_flood_pieces.Choices.{chosen}
@@ -42,25 +43,25 @@ older_is b n c m same less = grind (arith, nat_tests)
 
 -- ---- removals behind the first effect
 
-pub taken_removed : (b : Store) (f : FileId) (g : Flag) → (take_flag b f g).names.removed ≡ b.names.removed
+pub taken_removed : (b : Store) (f : FileId) (g : Flag) → removed_of (take_flag b f g) ≡ removed_of b
 taken_removed b f g =
-    chosen (λ (c : Store). c.names.removed ≡ b.names.removed) (is_newer_flag b f g) (put_flag b f g) b (update_frame b.names f (with_flag g)).removed refl
+    chosen (λ (c : Store). removed_of c ≡ removed_of b) (is_newer_flag b f g) (put_flag b f g) b (update_frame b.names f (with_flag g)).removed refl
 
-rules_removed : (b : Store) (w : Work) → (rules b w).store.names.removed ≡ b.names.removed
+rules_removed : (b : Store) (w : Work) → removed_of (rules b w).store ≡ removed_of b
 rules_removed b w =
     let st = house w.now (state_of b.names w) in
     ap (λ (m : NamesValue). m.removed) (same_names (with_names b st.names) (drop (length w.touched) st.work.touched)) ∙ (rules_by w.now (state_of b.names w)).1
 
-settled_removed : (b : Store) (w : Work) → (settle b w).store.names.removed ≡ b.names.removed
+settled_removed : (b : Store) (w : Work) → removed_of (settle b w).store ≡ removed_of b
 settled_removed b w =
-    settle_keeps (λ (c : Store) (v : Work). c.names.removed ≡ b.names.removed) (λ c v k. rules_removed c v ∙ k)
+    settle_keeps (λ (c : Store) (v : Work). removed_of c ≡ removed_of b) (λ c v k. rules_removed c v ∙ k)
     (λ c f v less k. taken_removed c f (own_next c f true) ∙ k) b w refl
 
-pub end_removed : (a : Store) (asked : Input) → (effect a asked).store.names.removed ≡ (first_effect a asked).store.names.removed
+pub end_removed : (a : Store) (asked : Input) → removed_of (effect a asked).store ≡ removed_of (first_effect a asked).store
 end_removed a asked =
     let d = first_effect a asked in
-    ap (λ (b : Store). b.names.removed) (store_is a asked)
-    ∙ chosen (λ (e : Done). e.store.names.removed ≡ d.store.names.removed) (takes_effect a asked) (intended (settled d)) d
+    ap (λ (b : Store). removed_of b) (store_is a asked)
+    ∙ chosen (λ (e : Done). removed_of e.store ≡ removed_of d.store) (takes_effect a asked) (intended (settled d)) d
     (ap (λ (m : NamesValue). m.removed) (begin_end_stays (settled d).store (settled d).work).names ∙ settled_removed d.store d.work) refl
 
 -- what holds of all that is made by the end of the rules holds of all

@@ -17,6 +17,7 @@ use Rattle.law_full.specs.pg_register.declared.flag.Flag.{Flag}
 use Rattle.law_full.specs.pg_register.Flag.{IsByServer, flag_of, is_raised, is_removed}
 use Rattle.law_full.specs.pg_replica.declared.replica.Replica.{Replica}
 use Rattle.law_full.specs.pg_store.declared.store.Store.{Store}
+use Rattle.law_full.specs.pg_store.Seen.{removed_of, server_of}
 use Rattle.law_full.specs.pg_store.Store.{is_full, replica_at}
 use Rattle.law_full.specs.theory_flood_pieces.Whole.{IsWhole}
 use Rattle.law_quiet.proofs.Agreement.{own_by}
@@ -100,13 +101,13 @@ module _ (n : ℕ) (on : StandOn n) (events : List Event) (quiet : IsQuiet n (ru
         ap (λ (o : Attributes). flag_of o.flags k) (sym (own_is s h)) ∙ knows s live (full_is s h) ∙ Own_flag.there in
         among_contained h.value.own.flags F (flag_found h.value.own.flags k F there).0
 
-    not_removed : (s : ℕ) → Lives s → (t : ℕ) → Lives t → is_removed (A s).names.removed t ≡ false
+    not_removed : (s : ℕ) → Lives s → (t : ℕ) → Lives t → is_removed (removed_of (A s)) t ≡ false
     not_removed s live t there = (let i = live_is n W t there in ap (λ (rs : List ℕ). is_removed rs t) (all_known n on events quiet s live) ∙ i.live)
 
     live_gold : (s : ℕ) → Lives s → IsLiveGold (A s) F
     live_gold s live =
-        and_from F.raised (not (is_removed (A s).names.removed F.server)) Own_flag.raised
-        (ap (λ (m : ℕ). not (is_removed (A s).names.removed m)) Own_flag.server_is ∙ ap not (not_removed s live k g.live))
+        and_from F.raised (not (is_removed (removed_of (A s)) F.server)) Own_flag.raised
+        (ap (λ (m : ℕ). not (is_removed (removed_of (A s)) m)) Own_flag.server_is ∙ ap not (not_removed s live k g.live))
 
     edge_of : (s : ℕ) (live : Lives s) (h : IsFull W file s) (e : Edge) → Contains h.holds.replica.edges e → IsAmong h.holds.replica.edges e
     edge_of s live h e c = among_of h.holds.replica.edges e c
@@ -119,7 +120,7 @@ module _ (n : ℕ) (on : StandOn n) (events : List Event) (quiet : IsQuiet n (ru
         by : (t : Bool) → (s == k) ≡ t → AreOne W file s k
         by true same = inl (eqb-true s k same)
         by false apart =
-            let other : F.server ≢ (A s).names.server = (λ e. eqb-false s k apart (sym (whole s live).server ∙ sym e ∙ Own_flag.server_is)) in
+            let other : F.server ≢ server_of (A s) = (λ e. eqb-false s k apart (sym (whole s live).server ∙ sym e ∙ Own_flag.server_is)) in
             elim ((names_golds s live h).gold gold F (flag_in s live h) (live_gold s live) other) [
               | inl name ↦ (
                   let e = name.0 in
@@ -159,7 +160,7 @@ module _ (n : ℕ) (on : StandOn n) (events : List Event) (quiet : IsQuiet n (ru
         subst (λ (o : Attributes). Contains o.flags flag) same_own seen,
         sym to ∙ sym (whole e.peer peer_live).server,
         sym replica_same,
-        (and_parts flag.raised (not (is_removed (A s).names.removed flag.server)) lives).0,
+        (and_parts flag.raised (not (is_removed (removed_of (A s)) flag.server)) lives).0,
       )
 
       peer_joins : AreOne W file s k
@@ -167,10 +168,10 @@ module _ (n : ℕ) (on : StandOn n) (events : List Event) (quiet : IsQuiet n (ru
 
     -- ---- so each is joined to it
 
-    joins_by : (s : ℕ) → (live : Lives s) → (h : IsFull W file s) → (t : Bool) → is_raised h.value.own.flags (A s).names.server h.holds.replica.birth ≡ t
+    joins_by : (s : ℕ) → (live : Lives s) → (h : IsFull W file s) → (t : Bool) → is_raised h.value.own.flags (server_of (A s)) h.holds.replica.birth ≡ t
         → AreOne W file s k
     joins_by s live h true is =
-        let r = raised_one h.value.own.flags (A s).names.server h.holds.replica.birth is in
+        let r = raised_one h.value.own.flags (server_of (A s)) h.holds.replica.birth is in
         gold_joins s live h (r.flag, among_contained h.value.own.flags r.flag r.among, r.server_is, r.birth_is, r.raised)
     joins_by s live h false is =
         let i = live_is n W s live in
@@ -185,7 +186,7 @@ module _ (n : ℕ) (on : StandOn n) (events : List Event) (quiet : IsQuiet n (ru
         ]
 
     joins : (s : ℕ) → Lives s → Holds W file s → AreOne W file s k
-    joins s live h = (let f = all_full s live h in joins_by s live f (is_raised f.value.own.flags (A s).names.server f.holds.replica.birth) refl)
+    joins s live h = (let f = all_full s live h in joins_by s live f (is_raised f.value.own.flags (server_of (A s)) f.holds.replica.birth) refl)
 
     -- CONNECTED
     pub connected : IsConnected n W file

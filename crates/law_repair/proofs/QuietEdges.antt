@@ -21,7 +21,7 @@ use Rattle.law_full.specs.pg_register.Flag.{is_removed}
 use Rattle.law_full.specs.pg_replica.declared.replica.Replica.{Replica}
 use Rattle.law_full.specs.pg_server.Owing.{edge_owes, owed, owed_keys, replica_owes}
 use Rattle.law_full.specs.pg_store.declared.store.Store.{Store}
-use Rattle.law_full.specs.pg_store.Servers.{view_of}
+use Rattle.law_full.specs.pg_store.Seen.{removed_of, server_of, view_of}
 use Rattle.law_full.specs.pg_store.Store.{replica_at}
 use Rattle.law_full.specs.theory_flood_pieces.Whole.{AreEdges, IsEdge, IsOther, IsWhole}
 use Rattle.law_full.proofs.theory_flood_pieces.Choices.{found_replica}
@@ -58,9 +58,9 @@ no_keys a e = map_empty owing.Key (owed_keys a) (both_empty _ _ (both_empty _ _ 
 bare_edges : (a : Store) (file : FileId) (x : Replica) → owed a ≡ [] → replica_at a file ≡ Some x → All IsBare x.edges
 bare_edges a file x e is =
     found_replica (λ z. All IsBare z.edges) file x a.replicas
-    (All-weaker (λ (r : FileId × Replica). replica_owes a.names.server r ≡ [])
-    (λ r. All IsBare r.1.edges) (λ r h. bare_replica a.names.server r h) a.replicas
-    (all_empty (replica_owes a.names.server) a.replicas (no_keys a e))) is
+    (All-weaker (λ (r : FileId × Replica). replica_owes (server_of a) r ≡ [])
+    (λ r. All IsBare r.1.edges) (λ r h. bare_replica (server_of a) r h) a.replicas
+    (all_empty (replica_owes (server_of a)) a.replicas (no_keys a e))) is
 
 server_is : (n s : ℕ) → 1 ≤ s → s ≤ n → is_server n s ≡ true
 server_is n s least most = grind (arith, nat_tests)
@@ -105,7 +105,7 @@ module _ (n : ℕ) (on : StandOn n) (events : List Event) (quiet : IsQuiet n (ru
   whole_of s live = let i = live_is n W s live in on.holding.whole events s i.least i.most
 
   -- all removals are known to a live server
-  pub all_known : (s : ℕ) → Lives s → (A s).names.removed ≡ removals W.journal
+  pub all_known : (s : ℕ) → Lives s → removed_of (A s) ≡ removals W.journal
   all_known s live =
       let i = live_is n W s live in
       let all : length (removals W.journal) ≤ view_of (A s) = (let same = quiet.views s live in omega arith) in
@@ -140,7 +140,7 @@ module _ (n : ℕ) (on : StandOn n) (events : List Event) (quiet : IsQuiet n (ru
     pub named_back : HasEdge W file s e.peer
     named_back =
         let i = live_is n W s live in
-        let mine : is_removed (A e.peer).names.removed s ≡ false = ap (λ (rs : List ℕ). is_removed rs s) (all_known e.peer peer_lives) ∙ i.live in
+        let mine : is_removed (removed_of (A e.peer)) s ≡ false = ap (λ (rs : List ℕ). is_removed rs s) (all_known e.peer peer_lives) ∙ i.live in
         elim (on.quiet.heard events s i.least i.most file x e (record { is = held; among = among })
         (record {
           key = key.Place;

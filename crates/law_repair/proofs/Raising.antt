@@ -39,6 +39,7 @@ use Rattle.law_full.specs.pg_server.declared.input.Input.TheVariants as input
 use Rattle.law_full.specs.pg_server.Local.{done_of, effect, first_effect}
 use Rattle.law_full.specs.pg_store.declared.store.Store.{Store}
 use Rattle.law_full.specs.pg_store.Links.{is_clean}
+use Rattle.law_full.specs.pg_store.Seen.{removed_of}
 use Rattle.law_full.specs.pg_store.Store.{is_full, replica_at}
 use Rattle.law_full.specs.pg_store.Together.{AreTogether, birth_at}
 use Rattle.law_full.proofs.pg_store.Over.{over_stays}
@@ -115,9 +116,9 @@ module _ (n : ℕ) (both : HoldBoth n) (grow : EventsGrow n) (moves : BirthsMove
     whole_e : IsWhole n s E
     whole_e = subst (IsWhole n s) at_end (whole (events ++ event ∷ []) s acts.least acts.most)
 
-    live : is_removed First.store.names.removed s ≡ false
+    live : is_removed (removed_of First.store) s ≡ false
     live =
-        ap (λ (rs : List ℕ). is_removed rs s) (sym (end_removed A asked)) ∙ ap (λ (b : Store). is_removed b.names.removed s) (sym at_end)
+        ap (λ (rs : List ℕ). is_removed rs s) (sym (end_removed A asked)) ∙ ap (λ (b : Store). is_removed (removed_of b) s) (sym at_end)
         ∙ (views (events ++ event ∷ []) s acts.least acts.most).own
 
     together : AreTogether A
@@ -223,7 +224,7 @@ module _ (n : ℕ) (both : HoldBoth n) (grow : EventsGrow n) (moves : BirthsMove
         whole = whole_first;
         says = says;
         there = there;
-        live = ap (is_removed First.store.names.removed) mine.server_is ∙ live;
+        live = ap (is_removed (removed_of First.store)) mine.server_is ∙ live;
         none = λ g now. absurd (none g now);
       }
 
@@ -245,7 +246,7 @@ module _ (n : ℕ) (both : HoldBoth n) (grow : EventsGrow n) (moves : BirthsMove
         let apart : is_same_file file root ≡ false = ap (λ (f : FileId). is_root f) (sym (inner.1 ∙ last.1)) ∙ inner.0 in
         let seen : has_clean_gold A file ≡ true = ap (has_clean_gold A) (sym last.1) ∙ not_not (has_clean_gold A one.0) last.0 in
         let g = any_found (is_clean_gold A file) (flags_of A file) seen in
-        let parts = and_parts (is_live A.names.removed g.0) (is_clean A file g.0.server g.0.birth) g.2 in
+        let parts = and_parts (is_live (removed_of A) g.0) (is_clean A file g.0.server g.0.birth) g.2 in
         let x = born_of (replica_at A file) birth.0 birth.1 in
         let D : Done = lower_flag A file w in
         let is : First ≡ D =
@@ -254,7 +255,7 @@ module _ (n : ℕ) (both : HoldBoth n) (grow : EventsGrow n) (moves : BirthsMove
         ∙ ap (λ t. cond t D (idle A w)) gold in
         let after : IsWhole n s D.store = subst (λ (e : Done). IsWhole n s e.store) is whole_first in
         let k = demoted_stands n s A file whole_a x.0 x.1 (flags_passed apart) g.0 g.1 parts.0 parts.1 w refl after in
-        let up : g.0.raised ≡ true = (and_parts g.0.raised (not (is_removed A.names.removed g.0.server)) parts.0).0 in
+        let up : g.0.raised ≡ true = (and_parts g.0.raised (not (is_removed (removed_of A) g.0.server)) parts.0).0 in
         ends_by g.0 up (subst (λ (e : Done). Stands n s file g.0 up e.store e.work) (sym is) k)
       where
         not_not : (t : Bool) → not t ≡ false → t ≡ true

@@ -26,6 +26,7 @@ use Rattle.law_full.specs.pg_cells.Settling.{rules, settle}
 use Rattle.law_full.proofs.pg_cells.Settled.{settle_keeps}
 use Rattle.law_full.specs.pg_store.declared.store.Store.{Store}
 use Rattle.law_full.specs.pg_store.Births.{birth_of}
+use Rattle.law_full.specs.pg_store.Seen.{removed_of, server_of}
 use Rattle.law_full.specs.pg_store.Store.{is_newer_flag, put_flag, take_flag, with_names}
 use Rattle.law_full.specs.theory_flood_pieces.UpTo.{IsFlagKnownBy}
 use Rattle.law_full.specs.theory_flood_pieces.Whole.{IsWhole}
@@ -71,7 +72,7 @@ module _ (n s : ℕ) (file : FileId) (z : Flag) (raised : z.raised ≡ true) whe
     pub whole : IsWhole n s b
     pub says : SaysNames (UpTo file z) s b.names
     pub there : flag_at b file z.server ≡ Some z
-    pub live : is_removed b.names.removed z.server ≡ false
+    pub live : is_removed (removed_of b) z.server ≡ false
     pub none : NoneRaised w.made
 
   -- ---- so the thing is not without a gold one
@@ -82,13 +83,13 @@ module _ (n s : ℕ) (file : FileId) (z : Flag) (raised : z.raised ≡ true) whe
   bright false later full h = absurd (false≢true h)
 
   goldless_by : (b : Store) (birth : ℕ) (o : Option InodeValue) → flag_of (or_blank file (own_of o)).flags z.server ≡ Some z
-      → is_removed b.names.removed z.server ≡ false → is_goldless_held b.names.removed b.names.server birth o ≡ false
+      → is_removed (removed_of b) z.server ≡ false → is_goldless_held (removed_of b) (server_of b) birth o ≡ false
   goldless_by b birth None there live = refl
   goldless_by b birth (Some x) there live =
       let found = flag_found x.own.flags z.server z there in
-      let lives : is_live b.names.removed z ≡ true = and_from z.raised (not (is_removed b.names.removed z.server)) raised (ap not live) in
-      bright (sees_gold b.names.removed x.own.flags) (is_of_later birth (flag_of x.own.flags b.names.server)) x.full
-      (any_by (is_live b.names.removed) x.own.flags z found.0 lives)
+      let lives : is_live (removed_of b) z ≡ true = and_from z.raised (not (is_removed (removed_of b) z.server)) raised (ap not live) in
+      bright (sees_gold (removed_of b) x.own.flags) (is_of_later birth (flag_of x.own.flags (server_of b))) x.full
+      (any_by (is_live (removed_of b)) x.own.flags z found.0 lives)
 
   not_goldless : (b : Store) (w : Work) → Stands b w → is_goldless b file ≡ false
   not_goldless b w k = goldless_by b (birth_of b file) (known b.names file) k.there k.live
@@ -150,7 +151,7 @@ module _ (n s : ℕ) (file : FileId) (z : Flag) (raised : z.raised ≡ true) whe
         says = chosen (λ (c : Store). SaysNames (UpTo file z) s c.names) (is_newer_flag b f g) (put_flag b f g) b
             (says_flag (UpTo file z) s b.names f g (λ same at. absurd (not_same f apart same)) k.says) k.says;
         there = ap (λ (o : Option Attributes). flag_of (or_blank file o).flags z.server) (other_flags b f g apart) ∙ k.there;
-        live = chosen (λ (c : Store). is_removed c.names.removed z.server ≡ false) (is_newer_flag b f g) (put_flag b f g) b
+        live = chosen (λ (c : Store). is_removed (removed_of c) z.server ≡ false) (is_newer_flag b f g) (put_flag b f g) b
             (ap (λ (rs : List ℕ). is_removed rs z.server) (update_frame b.names f (with_flag g)).removed ∙ k.live) k.live;
         none = λ h there. elim (among_parts (update.Flag file h) w.made (update.Flag f g ∷ [])
             (subst (Among (update.Flag file h)) (flag_still b f g (with_made w (update.Flag f g))).made there)) [

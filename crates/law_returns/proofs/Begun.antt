@@ -24,6 +24,7 @@ use Rattle.law_full.specs.pg_register.Place.{blank_place, root}
 use Rattle.law_full.specs.pg_house.Facts.{IsLast}
 use Rattle.law_full.proofs.pg_house.Lasting.{drawn_late}
 use Rattle.law_full.specs.pg_store.declared.store.Store.{Store}
+use Rattle.law_full.specs.pg_store.Seen.{removed_of}
 use Rattle.law_full.specs.pg_store.Start.{first_names, root_own}
 use Rattle.law_full.specs.pg_calls.Making.{drawn}
 use Rattle.law_full.specs.pg_server.declared.input.Input.{Input}
@@ -110,14 +111,14 @@ module _ (n : ℕ) (dir : FileId) (is : is_dir dir ≡ true) (removal : Place) (
       abbrev Next : World
       Next = world_after w Step_by
 
-      not_sent : (packet : Packet) → is_heard (w.stores s) packet ≡ true → IsStillThere (w.stores s).names.removed removal → All (NotBrought w) (mail w.journal)
+      not_sent : (packet : Packet) → is_heard (w.stores s) packet ≡ true → IsStillThere (removed_of (w.stores s)) removal → All (NotBrought w) (mail w.journal)
           → HasCome w s (input.Arrival packet) → Brings dir removal packet.message → ⊥
       not_sent packet heard there none way b =
           (All-contains (NotBrought w) (mail w.journal) (record { to = s; packet = packet }) none way b).1
           (still_view w s (w.stores s) packet.view removal (k.on.views s least most) (heard_view (w.stores s) packet heard) there)
 
       -- it does not come about, but at its maker
-      not_caused : (x : Input) → HasCome w s x → IsUnknown n dir removal w → IsStillThere (w.stores s).names.removed removal → (Maker ≡ s → ⊥) → IsCaused (w.stores s) x dir removal → ⊥
+      not_caused : (x : Input) → HasCome w s x → IsUnknown n dir removal w → IsStillThere (removed_of (w.stores s)) removal → (Maker ≡ s → ⊥) → IsCaused (w.stores s) x dir removal → ⊥
       not_caused (input.Call moment c) way v there other (inl same) = v.there s least most there (sym same)
       not_caused (input.Call moment c) way v there other (inr now) = other (ap (λ (x : Stamp). x.server) now ∙ (k.on.whole s).server)
       not_caused (input.Tick moment word) way v there other same = v.there s least most there (sym same)
@@ -129,7 +130,7 @@ module _ (n : ℕ) (dir : FileId) (is : is_dir dir ≡ true) (removal : Place) (
       unknown_acted early =
           let before : (w.stores Maker).names.last < removal.stamp.time = up_to (w.stores Maker).names.last (Now Maker).names.last removal.stamp.time (lasts n dir is removal dead late w k event s asked least most takes sent Maker) early in
           let v = u before in
-          let not_then : IsStillThere End.names.removed removal → place_at End.names dir ≡ removal → ⊥ =
+          let not_then : IsStillThere (removed_of End) removal → place_at End.names dir ≡ removal → ⊥ =
           λ there at. not_caused asked sent v (still_before (w.stores s) asked removal there)
           (λ same.
           let last : IsLast End.names = subst (λ (x : Store). IsLast x.names) at_itself (next.on.whole s).names.last in
@@ -139,9 +140,9 @@ module _ (n : ℕ) (dir : FileId) (is : is_dir dir ≡ true) (removal : Place) (
           (caused n dir is removal dead late w k event s asked least most takes sent there at) in
           record {
             there = λ t l m there at. elim (here w.stores s End t) [
-              | inl e ↦ not_then (subst (λ (x : Store). IsStillThere x.names.removed removal) e.1 there)
+              | inl e ↦ not_then (subst (λ (x : Store). IsStillThere (removed_of x) removal) e.1 there)
                   (ap (λ (x : Store). place_at x.names dir) (sym e.1) ∙ at)
-              | inr e ↦ v.there t l m (subst (λ (x : Store). IsStillThere x.names.removed removal) e.1 there)
+              | inr e ↦ v.there t l m (subst (λ (x : Store). IsStillThere (removed_of x) removal) e.1 there)
                   (ap (λ (x : Store). place_at x.names dir) (sym e.1) ∙ at)
             ];
             brought = All-append (NotBrought Next) (effect (w.stores s) asked).out.sent (mail w.journal)
@@ -226,7 +227,7 @@ module _ (n : ℕ) (dir : FileId) (is : is_dir dir ≡ true) (removal : Place) (
             there = λ t l m there at. elim (here w.stores s end t) [
               | inl e ↦ subst (λ (x : Store). KnowsChildren dir Known x.names) (sym e.1)
                   (now_known (ap (λ (x : Store). place_at x.names dir) (sym e.1) ∙ at))
-              | inr e ↦ absurd (v.there t l m (subst (λ (x : Store). IsStillThere x.names.removed removal) e.1 there)
+              | inr e ↦ absurd (v.there t l m (subst (λ (x : Store). IsStillThere (removed_of x) removal) e.1 there)
                   (ap (λ (x : Store). place_at x.names dir) (sym e.1) ∙ at))
             ];
             brought = All-append P (effect a asked).out.sent (mail w.journal)

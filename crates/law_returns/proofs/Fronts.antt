@@ -6,7 +6,7 @@ use Rattle.law_full.specs.pg_msg.declared.message.Packet.{Packet}
 use Rattle.law_full.specs.pg_register.declared.place.Place.{Place}
 use Rattle.law_full.specs.pg_register.Flag.{is_removed}
 use Rattle.law_full.specs.pg_store.declared.store.Store.{Store}
-use Rattle.law_full.specs.pg_store.Servers.{view_of}
+use Rattle.law_full.specs.pg_store.Seen.{removed_of, view_of}
 use Rattle.law_full.specs.pg_store.Store.{is_before_clock_end}
 use Rattle.law_full.specs.pg_server.Local.{is_heard}
 use Rattle.law_full.specs.pg_run.Journal.{removals}
@@ -42,11 +42,11 @@ module _ (w : World) (step : Step) where
   still_on v place h there = ap (λ (l : List ℕ). is_removed l place.stamp.server) (sym (front_on v h)) ∙ there
 
 -- what is not removed by the view of a server is not removed there
-pub view_still : (w : World) (s : ℕ) (a : Store) (v : ℕ) (place : Place) → IsInView w s a → v ≡ view_of a → IsStillThere (removed_by w v) place → IsStillThere a.names.removed place
+pub view_still : (w : World) (s : ℕ) (a : Store) (v : ℕ) (place : Place) → IsInView w s a → v ≡ view_of a → IsStillThere (removed_by w v) place → IsStillThere (removed_of a) place
 view_still w s a v place k same there =
     ap (λ (l : List ℕ). is_removed l place.stamp.server) (sym (ap (removed_by w) same ∙ k.front)) ∙ there
 
-pub still_view : (w : World) (s : ℕ) (a : Store) (v : ℕ) (place : Place) → IsInView w s a → v ≡ view_of a → IsStillThere a.names.removed place → IsStillThere (removed_by w v) place
+pub still_view : (w : World) (s : ℕ) (a : Store) (v : ℕ) (place : Place) → IsInView w s a → v ≡ view_of a → IsStillThere (removed_of a) place → IsStillThere (removed_by w v) place
 still_view w s a v place k same there =
     ap (λ (l : List ℕ). is_removed l place.stamp.server) (ap (removed_by w) same ∙ k.front) ∙ there
 

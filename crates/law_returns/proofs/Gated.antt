@@ -24,7 +24,7 @@ use Rattle.law_full.proofs.pg_house.Lasting.{drawn_late}
 use Rattle.law_full.specs.pg_names.Names.{NamesValue, is_dir}
 use Rattle.law_full.specs.pg_register.declared.place.Place.{Place}
 use Rattle.law_full.specs.pg_store.declared.store.Store.{Store}
-use Rattle.law_full.specs.pg_store.Servers.{view_of}
+use Rattle.law_full.specs.pg_store.Seen.{removed_of, view_of}
 use Rattle.law_full.specs.pg_store.Together.{BirthsMove}
 use Rattle.law_full.proofs.pg_store.Over.{moves_then}
 use Rattle.law_full.specs.pg_cells.Sending.{Wanted, cells_where}
@@ -128,7 +128,7 @@ module _ (n : ℕ) (dir : FileId) (is : is_dir dir ≡ true) (removal : Place) (
 
     -- the removal is there behind the event: it was there, or is the server's own, or came in a
     -- message
-    pub caused : IsStillThere Then.names.removed removal → place_at Then.names dir ≡ removal → IsCaused Here asked dir removal
+    pub caused : IsStillThere (removed_of Then) removal → place_at Then.names dir ≡ removal → IsCaused Here asked dir removal
     caused there at = effect_dead dir is removal dead late Here asked hears there at
 
     -- ---- what is sent in the event
@@ -188,7 +188,7 @@ module _ (n : ℕ) (dir : FileId) (is : is_dir dir ≡ true) (removal : Place) (
       pub dated_before : (m : Sent) → m.packet.view ≡ view_of Here → IsDated Next m
       dated_before m same = within_on w Taken m.packet.view (view_within w s Here m.packet.view view_here same)
 
-      pub still_sent : (m : Sent) → m.packet.view ≡ view_of Here → IsStillThere (removed_by Next m.packet.view) removal → IsStillThere Here.names.removed removal
+      pub still_sent : (m : Sent) → m.packet.view ≡ view_of Here → IsStillThere (removed_by Next m.packet.view) removal → IsStillThere (removed_of Here) removal
       still_sent m same there =
           view_still w s Here m.packet.view removal view_here same
           (still_on w Taken m.packet.view removal (view_within w s Here m.packet.view view_here same) there)
@@ -196,14 +196,14 @@ module _ (n : ℕ) (dir : FileId) (is : is_dir dir ≡ true) (removal : Place) (
       pub dated_behind : (m : Sent) → m.packet.view ≡ view_of (Later s) → IsDated Next m
       dated_behind m same = view_within Next s (Later s) m.packet.view view_then same
 
-      pub still_then : (m : Sent) → m.packet.view ≡ view_of (Later s) → IsStillThere (removed_by Next m.packet.view) removal → IsStillThere Then.names.removed removal
+      pub still_then : (m : Sent) → m.packet.view ≡ view_of (Later s) → IsStillThere (removed_by Next m.packet.view) removal → IsStillThere (removed_of Then) removal
       still_then m same there =
-          subst (λ (x : Store). IsStillThere x.names.removed removal) itself
+          subst (λ (x : Store). IsStillThere (removed_of x) removal) itself
           (view_still Next s (Later s) m.packet.view removal view_then same there)
 
       -- ---- who knows the removal knows the children
 
-      module _ (known : NamesValue) (before : IsStillThere Here.names.removed removal → place_at Here.names dir ≡ removal → KnowsChildren dir known Here.names) (behind : IsStillThere Then.names.removed removal → place_at Then.names dir ≡ removal → KnowsChildren dir known Then.names) where
+      module _ (known : NamesValue) (before : IsStillThere (removed_of Here) removal → place_at Here.names dir ≡ removal → KnowsChildren dir known Here.names) (behind : IsStillThere (removed_of Then) removal → place_at Then.names dir ≡ removal → KnowsChildren dir known Then.names) where
         abbrev pub OfMessage : Sent → Type 0
         OfMessage m = (b : Brings dir removal m.packet.message) → IsDated Next m
             × (IsStillThere (removed_by Next m.packet.view) removal → 1 ≤ m.to → m.to ≤ n → KnowsOrOver dir known (Later m.to) b.ends.receiver)
@@ -242,7 +242,7 @@ module _ (n : ℕ) (dir : FileId) (is : is_dir dir ≡ true) (removal : Place) (
         not_both removal.stamp.time a.names.last past later
 
     -- what a message that is heard brings is known, where the maker is not removed in the view
-    came_known : (s : ℕ) → 1 ≤ s → s ≤ n → IsStillThere (w.stores s).names.removed removal → (packet : Packet) → is_heard (w.stores s) packet ≡ true
+    came_known : (s : ℕ) → 1 ≤ s → s ≤ n → IsStillThere (removed_of (w.stores s)) removal → (packet : Packet) → is_heard (w.stores s) packet ≡ true
         → HasCome w s (input.Arrival packet) → (b : Brings dir removal packet.message) → KnowsOrOver dir known (w.stores s) b.ends.receiver
     came_known s least most there packet heard sent b =
         let P : Sent → Type 0 = λ m. (c : Brings dir removal m.packet.message) → IsDated w m
@@ -250,7 +250,7 @@ module _ (n : ℕ) (dir : FileId) (is : is_dir dir ≡ true) (removal : Place) (
         let said = All-contains P (mail w.journal) (record { to = s; packet = packet }) gated.brought sent b in
         said.1 (still_view w s (w.stores s) packet.view removal (k.on.views s least most) (heard_view (w.stores s) packet heard) there) least most
 
-    pub first_known : (s : ℕ) (asked : Input) → 1 ≤ s → s ≤ n → IsStillThere (w.stores s).names.removed removal → HasCome w s asked → IsCaused (w.stores s) asked dir removal
+    pub first_known : (s : ℕ) (asked : Input) → 1 ≤ s → s ≤ n → IsStillThere (removed_of (w.stores s)) removal → HasCome w s asked → IsCaused (w.stores s) asked dir removal
         → KnowsChildren dir known (w.stores s).names
     first_known s (input.Call moment c) least most there sent (inl same) = gated.there s least most there (sym same)
     first_known s (input.Call moment c) least most there sent (inr now) = absurd (not_now s moment now)
@@ -267,7 +267,7 @@ module _ (n : ℕ) (dir : FileId) (is : is_dir dir ≡ true) (removal : Place) (
         let step = effect_step w event s asked in
         let now = Later w k event s asked least most takes sent in
         let end = Then w k event s asked least most takes sent in
-        let behind : IsStillThere end.names.removed removal → place_at end.names dir ≡ removal → KnowsChildren dir known end.names =
+        let behind : IsStillThere (removed_of end) removal → place_at end.names dir ≡ removal → KnowsChildren dir known end.names =
         λ there at. then_knows w k event s asked least most takes sent known
         (first_known s asked least most (still_before a asked removal there) sent (caused w k event s asked least most takes sent there at)) at in
         let P : Sent → Type 0 = λ m. (b : Brings dir removal m.packet.message) → IsDated (world_after w step) m
@@ -277,10 +277,10 @@ module _ (n : ℕ) (dir : FileId) (is : is_dir dir ≡ true) (removal : Place) (
               (lasts w k event s asked least most takes sent removal.stamp.server);
           there = λ t l m there at. elim (here w.stores s end t) [
             | inl e ↦ (let Q : Store → Type 0 = λ x. KnowsChildren dir known x.names in
-                subst Q (sym e.1) (behind (subst (λ (x : Store). IsStillThere x.names.removed removal) e.1 there)
+                subst Q (sym e.1) (behind (subst (λ (x : Store). IsStillThere (removed_of x) removal) e.1 there)
                 (ap (λ (x : Store). place_at x.names dir) (sym e.1) ∙ at)))
             | inr e ↦ (let Q : Store → Type 0 = λ x. KnowsChildren dir known x.names in
-                subst Q (sym e.1) (gated.there t l m (subst (λ (x : Store). IsStillThere x.names.removed removal) e.1 there)
+                subst Q (sym e.1) (gated.there t l m (subst (λ (x : Store). IsStillThere (removed_of x) removal) e.1 there)
                 (ap (λ (x : Store). place_at x.names dir) (sym e.1) ∙ at)))
           ];
           brought = All-append P (effect a asked).out.sent (mail w.journal)

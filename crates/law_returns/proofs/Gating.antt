@@ -25,7 +25,7 @@ use Rattle.law_full.specs.pg_register.declared.place.Place.{Place}
 use Rattle.law_full.specs.pg_replica.declared.replica.Replica.{Replica}
 use Rattle.law_full.specs.pg_store.declared.store.Store.{Store}
 use Rattle.law_full.specs.pg_store.Cells.{cell_at, entry_cell, is_sure}
-use Rattle.law_full.specs.pg_store.Servers.{view_of}
+use Rattle.law_full.specs.pg_store.Seen.{view_of}
 use Rattle.law_full.specs.pg_store.Store.{replica_at}
 use Rattle.law_full.specs.pg_cells.Sending.{Wanted, cells_where, waits}
 use Rattle.law_full.specs.theory_flood_pieces.Names.{IsEntryKnownBy}

@@ -20,6 +20,7 @@ use Rattle.law_full.proofs.pg_house.Lasting.{pass_all_last, placed_last}
 use Rattle.law_full.proofs.pg_house.Repeating.{repeated_keeps}
 use Rattle.law_full.specs.pg_store.declared.store.Store.{Store}
 use Rattle.law_full.specs.pg_store.Births.{draw_birth, with_birth}
+use Rattle.law_full.specs.pg_store.Seen.{removed_of}
 use Rattle.law_full.specs.pg_store.Store.{take_place}
 use Rattle.law_full.specs.pg_pieces.Making.{own_next}
 use Rattle.law_full.specs.pg_calls.Naming.{begun, next_id, place_in, with_id}
@@ -133,11 +134,11 @@ before_by false c up h = refl
 
 -- who is not removed in the view behind an event, or behind its first effect, was not removed
 -- before it
-pub still_first : (a : Store) (asked : Input) (p : Place) → IsStillThere (first_effect a asked).store.names.removed p → IsStillThere a.names.removed p
-still_first a asked p h = before_by (is_removed a.names.removed p.stamp.server) _ (removed_first p.stamp.server a asked) h
+pub still_first : (a : Store) (asked : Input) (p : Place) → IsStillThere (removed_of (first_effect a asked).store) p → IsStillThere (removed_of a) p
+still_first a asked p h = before_by (is_removed (removed_of a) p.stamp.server) _ (removed_first p.stamp.server a asked) h
 
-pub still_before : (a : Store) (asked : Input) (p : Place) → IsStillThere (effect a asked).store.names.removed p → IsStillThere a.names.removed p
-still_before a asked p h = before_by (is_removed a.names.removed p.stamp.server) _ (removed_behind p.stamp.server a asked) h
+pub still_before : (a : Store) (asked : Input) (p : Place) → IsStillThere (removed_of (effect a asked).store) p → IsStillThere (removed_of a) p
+still_before a asked p h = before_by (is_removed (removed_of a) p.stamp.server) _ (removed_behind p.stamp.server a asked) h
 
 -- ---- the greatest time
 

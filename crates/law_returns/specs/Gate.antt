@@ -19,6 +19,7 @@ use Rattle.law_full.specs.pg_names.Names.{NamesValue, cell_at, is_dir, own_or_bl
 use Rattle.law_full.specs.pg_server.declared.input.Input.{Input}
 use Rattle.law_full.specs.pg_server.Local.{first_effect}
 use Rattle.law_full.specs.pg_store.declared.store.Store.{Store}
+use Rattle.law_full.specs.pg_store.Seen.{removed_of}
 use Rattle.law_full.specs.pg_store.Together.{IsOver, birth_at}
 use Rattle.law_full.specs.theory_flood_pieces.Names.{AreNamesUpTo, IsEntryKnownBy}
 use Rattle.law_full.specs.theory_flood_pieces.UpTo.{IsPlaceUpTo}
@@ -152,7 +153,7 @@ IsDated w m = m.packet.view ≤ length (removals w.journal)
 pub record IsGated (servers : ℕ) (known : NamesValue) (dir : FileId) (removal : Place) (w : World)
     : Type 0 where
   pub passed : removal.stamp.time ≤ (w.stores removal.stamp.server).names.last
-  pub there : AtEach servers (λ s. IsStillThere (w.stores s).names.removed removal
+  pub there : AtEach servers (λ s. IsStillThere (removed_of (w.stores s)) removal
       → place_at (w.stores s).names dir ≡ removal
       → KnowsChildren dir known (w.stores s).names)
   pub brought : All (λ m. (b : Brings dir removal m.packet.message) → IsDated w m
@@ -162,7 +163,7 @@ pub record IsGated (servers : ℕ) (known : NamesValue) (dir : FileId) (removal 
 -- no server knows this place of the directory, and no message ever brought it; unless its maker is
 -- removed in the view
 pub record IsUnknown (servers : ℕ) (dir : FileId) (place : Place) (w : World) : Type 0 where
-  pub there : AtEach servers (λ s. IsStillThere (w.stores s).names.removed place
+  pub there : AtEach servers (λ s. IsStillThere (removed_of (w.stores s)) place
       → place_at (w.stores s).names dir ≢ place)
   pub brought : All (λ m. Brings dir place m.packet.message → IsDated w m
       × ¬ (IsStillThere (removed_by w m.packet.view) place)) (mail w.journal)

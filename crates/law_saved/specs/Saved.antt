@@ -11,10 +11,11 @@ use Rattle.pg_saving.specs.declared.loading.Checkpoint.{Checkpoint}
 use Rattle.pg_state.specs.Fits.{FitsState}
 use Rattle.pg_state.specs.Spelling.{state_bytes}
 use Rattle.pg_store.specs.declared.store.Store.{Store}
+use Rattle.pg_store.specs.Seen.{server_of}
 
 -- it is of this server, of so many
 pub record IsOwn (server servers : ℕ) (store : Store) : Type 0 where
-  pub own : store.names.server ≡ server
+  pub own : server_of store ≡ server
   pub all : store.servers ≡ servers
 
 -- over these files it goes on with this old log, from this checkpoint or from none

@@ -14,6 +14,7 @@ use Rattle.pg_lookup.specs.declared.paths.Found.{Found}
 use Rattle.pg_store.specs.declared.store.Store.{Store}
 use Rattle.pg_store.specs.declared.wishes.Wish.{Wish}
 use Rattle.pg_store.specs.Births.{fill_at, wish_at, with_birth, with_wish}
+use Rattle.pg_store.specs.Seen.{removed_of, server_of}
 use Rattle.pg_store.specs.Servers.{next_target}
 use Rattle.pg_store.specs.Wishes.{put_wish}
 use Rattle.pg_house.proofs.Truths.{chosen}
@@ -36,11 +37,11 @@ holder_by s f (Some d) next h k = by (cell_at s.names d f) refl
   where
     by : (o : Option Entry) → cell_at s.names d f ≡ o → MayBeServer (unwrap_or (gold_of s.names o) next)
     by None e = k
-    by (Some c) e = gold_or s.names.server s.names.removed c next (cell_fits s.names h.names d f c e).flags.each k
+    by (Some c) e = gold_or (server_of s) (removed_of s) c next (cell_fits s.names h.names d f c e).flags.each k
 
 holder_may : (s : Store) (found : Found) → FitsStore s → MayBeServer (holder s found)
 holder_may s found h =
-    holder_by s found.file (dir_by s.names found.file found.way) (next_target s s.names.server) h (next_may s h s.names.server)
+    holder_by s found.file (dir_by s.names found.file found.way) (next_target s (server_of s)) h (next_may s h (server_of s))
 
 -- ---- as a wish that stands asks
 

@@ -22,6 +22,7 @@ use Rattle.pg_register.specs.declared.flag.Flag.{Flag}
 use Rattle.pg_store.specs.declared.store.Store.{Store}
 use Rattle.pg_store.specs.declared.wishes.Wish.{Wish}
 use Rattle.pg_store.specs.Births.{fill_at, wish_at}
+use Rattle.pg_store.specs.Seen.{removed_of, server_of}
 use Rattle.pg_store.specs.Servers.{next_target}
 use Rattle.pg_store.specs.Store.{is_held, touch, with_names}
 use Rattle.pg_store.specs.Wishes.{without_wish}
@@ -118,12 +119,12 @@ holder_may : (s : Store) (dir child : FileId) (o : Option Entry) (next : ℕ) �
     → MayBeServer (holder_by s next o)
 holder_may s dir child None next h may e = may
 holder_may s dir child (Some c) next h may e =
-    gold_or s.names.server s.names.removed c next (cell_fits s.names h.names dir child c e).flags.each may
+    gold_or (server_of s) (removed_of s) c next (cell_fits s.names h.names dir child c e).flags.each may
 
 confirm_fits : (s : Store) (x : Slot) (work : Work) → IsOfDir x → FitsDone (idle s work) → FitsDone (begin_confirm s x work)
 confirm_fits s x work k h =
-    let next = next_target s s.names.server in
-    let may = holder_may s x.dir x.child (cell_at s.names x.dir x.child) next h.store (next_may s h.store s.names.server) refl in
+    let next = next_target s (server_of s) in
+    let may = holder_may s x.dir x.child (cell_at s.names x.dir x.child) next h.store (next_may s h.store (server_of s)) refl in
     chosen FitsDone (is_doubtful s x.dir x.child) (begin_intent s (confirm_of s x) work) (idle s work)
     (intent_fits s (confirm_of s x) work (record { about = k; target = may }) h) h
 
@@ -140,12 +141,12 @@ fill_fits s f work k h =
     (record { store = birth; work = h.work }))
 
 target_may : (s : Store) (o : Option Flag) → FitsStore s → MayBeFlag o → MayBeServer (target_or_next s o)
-target_may s None h k = next_may s h s.names.server
+target_may s None h k = next_may s h (server_of s)
 target_may s (Some flag) h k = k.most
 
 seek_may : (s : Store) (f : FileId) → FitsStore s → MayBeServer (seek_target s f)
 seek_may s f h =
-    let apart = is_apart s.names.server s.names.removed (edges_of s f) in
+    let apart = is_apart (server_of s) (removed_of s) (edges_of s f) in
     target_may s (find apart (flags_of s f)) h (first_flag apart (flags_of s f) (blank_fits s.names h.names f).flags.each)
 
 again_fits : (s : Store) (f : FileId) (work : Work) → FitsStore s → FitsStore (seek_again s f work)

@@ -25,6 +25,7 @@ use Rattle.pg_register.specs.declared.place.Place.{Place}
 use Rattle.pg_replica.specs.Replica.{has_many_actors, is_too_long, own_actor}
 use Rattle.pg_store.specs.declared.store.Store.{Store}
 use Rattle.pg_store.specs.Births.{draw_birth, with_birth}
+use Rattle.pg_store.specs.Seen.{server_of}
 use Rattle.pg_store.specs.Store.{content_of, replica_of}
 use Rattle.pg_house.proofs.Truths.{chosen}
 use Rattle.pg_lookup.specs.declared.paths.LookupError.{LookupError}
@@ -98,12 +99,12 @@ few n h = grind (arith, nat_tests)
 
 -- of what fits the new vector has few actors
 fit_few : (s : Store) (ranges : RangesValue) (f fit : FileId) → when_fit s ranges f ≡ Ok fit
-    → length (next_vector (content_of s fit).heads (own_actor (replica_of s fit) s.names.server)) ≤ 256
+    → length (next_vector (content_of s fit).heads (own_actor (replica_of s fit) (server_of s))) ≤ 256
 fit_few s ranges f fit h =
-    let many : FileId → Result FileId LookupError = λ g. unless (has_many_actors (replica_of s g) s.names.server) ManyActors g in
+    let many : FileId → Result FileId LookupError = λ g. unless (has_many_actors (replica_of s g) (server_of s)) ManyActors g in
     let b = behind (unless (is_too_long (replica_of s f) ranges) TooLong f) many fit h in
-    let c = unless_ok (has_many_actors (replica_of s b.0) s.names.server) ManyActors b.0 fit b.2 in
-    let actors : FileId → ℕ = λ g. length (next_vector (content_of s g).heads (own_actor (replica_of s g) s.names.server)) in
+    let c = unless_ok (has_many_actors (replica_of s b.0) (server_of s)) ManyActors b.0 fit b.2 in
+    let actors : FileId → ℕ = λ g. length (next_vector (content_of s g).heads (own_actor (replica_of s g) (server_of s))) in
     subst (λ (g : FileId). actors g ≤ 256) c.1 (few (actors b.0) c.0)
 
 -- ---- each call

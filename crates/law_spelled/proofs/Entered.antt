@@ -16,6 +16,7 @@ use Rattle.pg_names.specs.declared.attributes.Attributes.{Attributes}
 use Rattle.pg_names.specs.Names.{InodeValue, NamesValue, directories, is_dir, is_dir_kind, known, own_at}
 use Rattle.pg_house.proofs.Truths.{chosen}
 use Rattle.pg_store.specs.declared.store.Store.{Store}
+use Rattle.pg_store.specs.Seen.{removed_of}
 use Rattle.pg_store.specs.Servers.{next_target}
 use Rattle.pg_store.specs.Store.{replica_at}
 use Rattle.pg_store.specs.Views.{cut, cut_born, cut_each, enter, listed_birth, with_removed}
@@ -123,7 +124,7 @@ invites_fit : (files : List FileId) (s : Store) (work : Work) → FitsStore s �
 invites_fit [] s work k h = h
 invites_fit (f ∷ files) s work k h =
     let edge = loose_edge s f in
-    let to = loose_fits s.names.removed (own_at s.names f) (edges_of s f) (replica_or s.replicas f k.replicas (replica_at s f) refl).edges in
+    let to = loose_fits (removed_of s) (own_at s.names f) (edges_of s f) (replica_or s.replicas f k.replicas (replica_at s f) refl).edges in
     invites_fit files s (invite_of s f work) k
     (chosen Fine (invites s f) (invite_along s f edge work) work (along_fits s f edge work to h) h)
 

@@ -13,6 +13,7 @@ use Rattle.pg_msg.specs.declared.summary.Greeting.TheVariants as greeting
 use Rattle.pg_msg.specs.declared.work.Work.{Work}
 use Rattle.pg_store.specs.declared.store.Store.{Store}
 use Rattle.pg_store.specs.Links.{knows_later}
+use Rattle.pg_store.specs.Seen.{server_of}
 use Rattle.pg_store.specs.Store.{is_held, replica_at}
 use Rattle.pg_house.proofs.Truths.{chosen}
 use Rattle.theory_flood_pieces.proofs.Choices.{decided}
@@ -100,8 +101,8 @@ walk_fits s ends origin birth hops word work k h =
     let on = onward s ends.file work.from origin in
     let next = walked s ends origin birth hops word on work in
     let all : All IsToServer on = All-filter (is_onward work.from origin) IsToServer (edges_of s ends.file) (edges_fit s ends.file work h) in
-    chosen FitsDone (is_accepted s work.from manner.Needs ends) (cond (origin == s.names.server) (idle s work) next) (accept s ends manner.Needs work)
-    (chosen FitsDone (origin == s.names.server) (idle s work) next h (walked_fits s ends origin birth hops word on work k all h))
+    chosen FitsDone (is_accepted s work.from manner.Needs ends) (cond (origin == server_of s) (idle s work) next) (accept s ends manner.Needs work)
+    (chosen FitsDone (origin == server_of s) (idle s work) next h (walked_fits s ends origin birth hops word on work k all h))
     (accept_fits s ends manner.Needs work h)
 
 -- ---- any message

@@ -8,6 +8,7 @@ use Rattle.pg_register.specs.Flag.{first_other_gold, is_live_other}
 use Rattle.pg_entries.specs.declared.entry.Entry.{Entry}
 use Rattle.pg_intent.proofs.Above.{next_lives}
 use Rattle.pg_store.specs.declared.store.Store.{Store}
+use Rattle.pg_store.specs.Seen.{removed_of, server_of}
 use Rattle.pg_store.specs.Servers.{first_target, next_target}
 use Rattle.pg_house.proofs.Truths.{chosen}
 use Rattle.law_spelled.specs.Stores.{FitsStore, MayBeServer}
@@ -22,13 +23,13 @@ module _ (s : Store) (h : FitsStore s) where
   next_may target =
       some_or_none (next_target s target)
       (λ some.
-      let upto = (next_lives s.servers s.names.server s.names.removed target some).upto in
+      let upto = (next_lives s.servers (server_of s) (removed_of s) target some).upto in
       let most = h.servers in
       omega (arith, upto, most))
 
   -- the sender of what came, else the next
   pub first_may : (from : ℕ) → MayBeServer from → MayBeServer (first_target s from)
-  first_may from k = chosen MayBeServer (from == 0) (next_target s s.names.server) from (next_may s.names.server) k
+  first_may from k = chosen MayBeServer (from == 0) (next_target s (server_of s)) from (next_may (server_of s)) k
 
 -- the server of a flag, else another
 server_or : (o : Option Flag) (next : ℕ) → MayBeFlag o → MayBeServer next → MayBeServer (unwrap_or (option_map (λ (flag : Flag). flag.server) o) next)

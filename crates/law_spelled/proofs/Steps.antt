@@ -20,7 +20,8 @@ use Rattle.pg_edges.specs.Edges.{put_edge}
 use Rattle.pg_store.specs.declared.store.Store.{Store}
 use Rattle.pg_store.specs.declared.wishes.Wish.{Wish}
 use Rattle.pg_store.specs.Births.{birth_of}
-use Rattle.pg_store.specs.Servers.{is_live_other, view_of}
+use Rattle.pg_store.specs.Seen.{server_of, view_of}
+use Rattle.pg_store.specs.Servers.{is_live_other}
 use Rattle.pg_store.specs.Start.{first_flag, first_flags, root_own}
 use Rattle.pg_store.specs.Store.{is_before_clock_end}
 use Rattle.pg_house.proofs.Truths.{chosen}
@@ -123,8 +124,8 @@ module _ (s : Store) (h : FitsStore s) where
   walk_fits word work None k = k
   walk_fits word work (Some f) k =
       let edges = edges_of s f in
-      let three : FitsWalk s.names.server 3 = record { origin = h.names.server; least = omega arith; most = omega arith } in
-      along_edge s f s.names.server (birth_of s f) most_hops (word / length edges) work (slice_get edges (word % length edges)) three
+      let three : FitsWalk (server_of s) 3 = record { origin = h.names.server; least = omega arith; most = omega arith } in
+      along_edge s f (server_of s) (birth_of s f) most_hops (word / length edges) work (slice_get edges (word % length edges)) three
       (λ e there. got IsToServer edges (word % length edges) e (edges_fit s f work (record { store = h; work = k })) there) k
 
   walks_fit : (word : ℕ) (work : Work) → Fine work → Fine (walk_of_tick s word work)

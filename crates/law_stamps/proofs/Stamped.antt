@@ -19,7 +19,7 @@ use Rattle.law_contents.specs.pg_run.Journal.{Born, born_at, born_in, mail, vers
 use Rattle.law_contents.specs.pg_run.Run.{Taking, World, effect_step, idle_step, run, world_after}
 use Rattle.law_contents.proofs.pg_run.pg_content.Members.{among_map}
 use Rattle.law_contents.proofs.pg_run.theory_flood_pieces.Choices.{chosen}
-use Rattle.law_contents.proofs.pg_run.Frame.{Acts, HasCome, holds_in_runs}
+use Rattle.law_contents.proofs.pg_run.Frame.{Acts, HasCome, holds_in_runs, no_server_comes}
 use Rattle.law_contents.proofs.pg_run.Lists.{among_parts, contained_among}
 use Rattle.law_contents.specs.Together.{StandOn}
 use Rattle.law_contents.proofs.Carrying.{policies}
@@ -247,6 +247,7 @@ module _ (n : ℕ) (small : n < 2 ^ 32) (stand : StandOn n) where
       holds_in_runs n IsApart (record {
         first = record { apart = λ u f p a b. absurd a };
         idle = idle_apart;
+        comes = λ past event server is k. absurd (no_server_comes event server is);
         acts = λ some e t taking acts h. acted some e t acts h;
       }) events
 

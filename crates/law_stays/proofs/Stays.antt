@@ -18,6 +18,7 @@ use Rattle.pg_run.specs.pg_replica.Replicas.{replicas_unlinked}
 use Rattle.pg_run.specs.pg_store.declared.store.Store.{Store}
 use Rattle.pg_run.specs.pg_store.Beginning.{begin, patches_of, put_new, take_patch, take_patches, take_told, take_told_in, with_intents}
 use Rattle.pg_run.specs.pg_store.Links.{is_linked, is_new_link, link, put_link, unlink}
+use Rattle.pg_run.specs.pg_store.Seen.{server_of}
 use Rattle.pg_run.specs.pg_store.Store.{is_new_version, is_newer_entry, is_newer_flag, is_newer_place, put_entry, put_flag, put_place, put_version, replica_at, take_entry, take_flag, take_place, take_version}
 use Rattle.pg_run.specs.pg_store.Views.{cut, cut_born, cut_each, enter, listed_birth, with_removed}
 use Rattle.pg_run.proofs.theory_flood_pieces.Choices.{chosen}
@@ -28,7 +29,7 @@ module _ (first : Store) where
   Same = IsSameServer first
 
   -- other names of the same server
-  pub same_by : (a b : Store) → b.names.server ≡ a.names.server → b.servers ≡ a.servers → Same a → Same b
+  pub same_by : (a b : Store) → server_of b ≡ server_of a → b.servers ≡ a.servers → Same a → Same b
   same_by a b server servers k = (server ∙ k.0, servers ∙ k.1)
 
   -- ---- what is taken

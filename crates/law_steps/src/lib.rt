@@ -18,3 +18,6 @@
 mod laws;
 
 pub use laws::refused_steps_change_nothing;
+
+// What the crates above name through this one.
+pub use law_refused::{confirms_begin_only, intentions_begin_in_turn, refusals_change_nothing};

@@ -10,7 +10,7 @@ use Rattle.pg_run.specs.pg_event.declared.quiet.Quiet.TheVariants.{Quiet, Waits}
 use Rattle.pg_run.specs.pg_msg.declared.message.Sent.{Sent}
 use Rattle.pg_run.specs.pg_msg.Sent.{summary}
 use Rattle.pg_run.specs.pg_server.Owing.{owed}
-use Rattle.pg_run.specs.pg_store.Servers.{view_of}
+use Rattle.pg_run.specs.pg_store.Seen.{view_of}
 use Rattle.pg_run.proofs.theory_flood_pieces.Choices.{decided}
 use Rattle.pg_run.specs.Journal.{bag, removals}
 use Rattle.pg_run.specs.Quiet.{causes, first_of, lag, of_live}

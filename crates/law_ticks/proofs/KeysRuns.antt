@@ -18,7 +18,7 @@ use Rattle.pg_run.specs.pg_server.Local.{effect, without_sources, without_volati
 use Rattle.pg_run.proofs.theory_flood_pieces.Graphs.{new_clean}
 use Rattle.pg_run.specs.Run.{World, run}
 use Rattle.pg_run.proofs.Event.{Comes, IsKeptByParts, store_kept}
-use Rattle.pg_run.proofs.Frame.{OutlivesEvents, each_after, holds_in_runs}
+use Rattle.pg_run.proofs.Frame.{OutlivesEvents, each_after, holds_in_runs, no_server_comes}
 use Rattle.law_ticks.specs.Laws.{KeysHaveCells}
 use Rattle.pg_run.specs.pg_names.Names.{NamesValue, remove_server}
 use Rattle.pg_run.specs.pg_edges.declared.key.Key.{Key}
@@ -97,6 +97,7 @@ outlives : (n : ℕ) → OutlivesEvents n EachHasCells
 outlives n = record {
   first = λ s. start_have n s;
   idle = λ w event cause h. h;
+  comes = λ past event server is k. absurd (no_server_comes event server is);
   acts = λ events event t is k h.
       (let w = run n events in
       each_after (λ s a. AllHaveCells a) w.stores t.server (effect (w.stores t.server) t.asked).store h (effect_have (w.stores t.server) t.asked (h t.server)));

@@ -17,7 +17,7 @@ use Rattle.pg_run.specs.pg_msg.declared.work.Work.{Work}
 use Rattle.pg_run.specs.pg_msg.Sent.{summary}
 use Rattle.pg_run.specs.pg_store.Cells.{cell_at}
 use Rattle.pg_run.specs.pg_replica.declared.replica.Replica.{Replica}
-use Rattle.pg_run.specs.pg_store.Servers.{view_of}
+use Rattle.pg_run.specs.pg_store.Seen.{view_of}
 use Rattle.pg_run.specs.pg_store.Store.{replica_at}
 use Rattle.pg_run.specs.pg_pieces.Done.{idle}
 use Rattle.pg_run.specs.pg_cells.Settling.{settle}

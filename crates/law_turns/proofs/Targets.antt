@@ -28,6 +28,7 @@ use Rattle.law_order.proofs.pg_register.Indexes.{first-least}
 use Rattle.law_order.specs.pg_replica.declared.replica.Replica.{Replica}
 use Rattle.law_order.specs.pg_replica.Replicas.{or_nothing}
 use Rattle.law_order.specs.pg_store.declared.store.Store.{Store}
+use Rattle.law_order.specs.pg_store.Seen.{removed_of, server_of}
 use Rattle.law_order.specs.pg_store.Servers.{first_target, next_target}
 use Rattle.law_order.specs.pg_store.Store.{replica_at}
 use Rattle.law_order.specs.theory_flood_pieces.Whole.{AreEdges, IsWhole}
@@ -72,10 +73,10 @@ listed_there es e order among =
 
 module _ (b : Store) where
   abbrev Mine : ℕ
-  Mine = b.names.server
+  Mine = server_of b
 
   abbrev Removed : List ℕ
-  Removed = b.names.removed
+  Removed = removed_of b
 
   -- ---- who is removed
 

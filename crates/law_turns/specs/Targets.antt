@@ -7,6 +7,7 @@ use Rattle.law_order.specs.pg_names.Names.{cell_at, own_at}
 use Rattle.law_order.specs.pg_register.declared.flag.Flag.{Flag}
 use Rattle.law_order.specs.pg_replica.declared.replica.Replica.{Replica}
 use Rattle.law_order.specs.pg_store.declared.store.Store.{Store}
+use Rattle.law_order.specs.pg_store.Seen.{removed_of, server_of}
 use Rattle.law_order.specs.pg_store.Store.{replica_at}
 use Rattle.law_order.specs.pg_run.Golds.{NamesOne}
 
@@ -16,16 +17,16 @@ use Rattle.law_order.specs.pg_run.Golds.{NamesOne}
 pub record IsLiveOther (b : Store) (server : ℕ) : Type 0 where
   pub least : 1 ≤ server
   pub most : server ≤ b.servers
-  pub other : server ≢ b.names.server
-  pub stays : ¬ (Contains b.names.removed server)
+  pub other : server ≢ server_of b
+  pub stays : ¬ (Contains (removed_of b) server)
 
 -- above: where live other servers are above this one, the target is the least of these
 -- around: where there are some and none is above, it is the least of all
 -- nobody: where there is none, it is 0
 pub record IsNextBehind (b : Store) (target : ℕ) : Type 0 where
-  pub above : (server : ℕ) → IsLiveOther b server → b.names.server < server
-      → IsLiveOther b target × (b.names.server < target) × (target ≤ server)
-  pub around : ((server : ℕ) → IsLiveOther b server → server ≤ b.names.server)
+  pub above : (server : ℕ) → IsLiveOther b server → server_of b < server
+      → IsLiveOther b target × (server_of b < target) × (target ≤ server)
+  pub around : ((server : ℕ) → IsLiveOther b server → server ≤ server_of b)
       → (server : ℕ) → IsLiveOther b server → IsLiveOther b target × (target ≤ server)
   pub nobody : ((server : ℕ) → ¬ (IsLiveOther b server)) → target ≡ 0
 
@@ -44,8 +45,8 @@ pub record IsLeastOrNext (b : Store) (Suits : ℕ → Type 0) (target : ℕ) : T
 -- the flag is raised, and of another server, not removed in this server's view
 pub record IsOtherGold (b : Store) (flag : Flag) : Type 0 where
   pub raised : flag.raised ≡ true
-  pub other : flag.server ≢ b.names.server
-  pub stays : ¬ (Contains b.names.removed flag.server)
+  pub other : flag.server ≢ server_of b
+  pub stays : ¬ (Contains (removed_of b) flag.server)
 
 -- such a flag of the server stands among those of the thing, and no edge here names the replica
 -- that it is of

@@ -37,7 +37,8 @@ use Rattle.pg_run.specs.pg_names.declared.attributes.Attributes.{Attributes}
 use Rattle.pg_run.specs.pg_names.Names.{cell_at as entry_at, own_at}
 use Rattle.pg_run.specs.pg_register.Flag.{is_removed}
 use Rattle.pg_run.specs.pg_store.declared.store.Store.{Store}
-use Rattle.pg_run.specs.pg_store.Servers.{is_live_other, view_of}
+use Rattle.pg_run.specs.pg_store.Seen.{removed_of, server_of, view_of}
+use Rattle.pg_run.specs.pg_store.Servers.{is_live_other}
 use Rattle.pg_run.specs.pg_store.Store.{is_before_clock_end}
 use Rattle.pg_run.specs.pg_store.Together.{AreTogether}
 use Rattle.pg_run.specs.pg_store.Views.{enter}
@@ -150,18 +151,18 @@ pub record Gives (a : Store) (asked : Input) (view : List ℕ) : Type 0 where
   pub server : ℕ
   pub is : asked ≡ input.Call moment (call.Giveup number server)
   pub may : may_give_up a number server ≡ true
-  pub entered : view ≡ a.names.removed ++ server ∷ []
+  pub entered : view ≡ removed_of a ++ server ∷ []
 
 -- the view in which it leaves the server
 pub record Goes (n s : ℕ) (a : Store) (asked : Input) (d : Done) : Type 0 where
   pub view : List ℕ
   pub fine : IsFine n s view d
   pub last : All (IsSent n s view) d.work.tail
-  pub how : (view ≡ a.names.removed) ⊎ Gives a asked view
+  pub how : (view ≡ removed_of a) ⊎ Gives a asked view
 
 -- a walk that is heard is of a server that is not removed
 abbrev pub HearsLive : Store → Input → Type 0
-HearsLive a (input.Arrival packet) = is_heard a packet ≡ true → IsOfLive a.names.removed packet.message
+HearsLive a (input.Arrival packet) = is_heard a packet ≡ true → IsOfLive (removed_of a) packet.message
 HearsLive a _ = Unit {0}
 
 may_enter : (a : Store) (number server : ℕ) (found : Unit {0}) → removal_at a number server ≡ Ok found
@@ -186,10 +187,10 @@ invites_sent (file ∷ files) b w =
     ∙ chosen (λ (v : Work). v.sent ≡ w.sent) (invites b file) (invite_along b file (loose_edge b file) w) w
     (invited_sent b file (loose_edge b file) w) refl
 
-module _ (n s : ℕ) (a : Store) (k : IsSeen n s a.names.removed a) (together : AreTogether a) (flags : FlagsAreOf n a.names)
-    (own : is_removed a.names.removed s ≡ false) where
+module _ (n s : ℕ) (a : Store) (k : IsSeen n s (removed_of a) a) (together : AreTogether a) (flags : FlagsAreOf n a.names)
+    (own : is_removed (removed_of a) s ≡ false) where
   abbrev Now : List ℕ
-  Now = a.names.removed
+  Now = removed_of a
 
   begins : (moment from : ℕ) → IsFine n s Now (idle a (new_work moment from))
   begins moment from = record { seen = k; sent = All-nil (IsSent n s Now) }
@@ -279,7 +280,7 @@ module _ (n s : ℕ) (a : Store) (k : IsSeen n s a.names.removed a) (together : 
       (chosen (IsFine n s Now) (is_before_clock_end a) (ticked a word w) (idle a w)
       (subst (λ (v : Work). IsFine n s Now (idle b v)) (sym (again_is b word w)) again) (begins moment 0))
       (All-weaker (GoesLast a asked) (IsSent n s Now)
-      (λ m h. walk_sent h.0 a.names.server (birth_of a h.0) m (ap (is_removed Now) k.server ∙ own) h.2)
+      (λ m h. walk_sent h.0 (server_of a) (birth_of a h.0) m (ap (is_removed Now) k.server ∙ own) h.2)
       (first_effect a asked).work.tail (first_tail a asked))
 
   -- ---- messages
@@ -328,7 +329,7 @@ module _ (n s : ℕ) (a : Store) (k : IsSeen n s a.names.removed a) (together : 
     pub view : List ℕ
     pub seen : IsSeen n s view (effect a asked).store
     pub sent : All (IsSent n s view) (effect a asked).out.sent
-    pub how : (view ≡ a.names.removed) ⊎ Gives a asked view
+    pub how : (view ≡ removed_of a) ⊎ Gives a asked view
 
   pub effect_leaves : (asked : Input) → HearsLive a asked → Leaves asked
   effect_leaves asked live =

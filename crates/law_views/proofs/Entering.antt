@@ -11,6 +11,7 @@ use Rattle.pg_run.specs.pg_replica.Replicas.{ByFile, replicas_unlinked}
 use Rattle.pg_run.specs.pg_store.declared.store.Store.{Store}
 use Rattle.pg_run.specs.pg_store.declared.wishes.Wish.{Wish}
 use Rattle.pg_run.specs.pg_store.Links.{is_linked, unlink}
+use Rattle.pg_run.specs.pg_store.Seen.{removed_of, server_of}
 use Rattle.pg_run.specs.pg_store.Servers.{next_target}
 use Rattle.pg_run.specs.pg_store.Store.{replica_at}
 use Rattle.pg_run.specs.pg_store.Together.{AreTogether}
@@ -57,10 +58,10 @@ module _ (n s : ℕ) (R : List ℕ) (a : Store) (server : ℕ) (together : AreTo
   abbrev Then : Store
   Then = enter a server
 
-  then_removed : Then.names.removed ≡ Later
+  then_removed : removed_of Then ≡ Later
   then_removed = ap (λ (m : NamesValue). m.removed) (enter_names a server) ∙ now_removed
 
-  then_server : Then.names.server ≡ s
+  then_server : server_of Then ≡ s
   then_server = ap (λ (m : NamesValue). m.server) (enter_names a server) ∙ k.server
 
   next_asked : Asked n s Later (next_target Then server)

@@ -40,6 +40,7 @@ use Rattle.pg_run.specs.pg_store.declared.wishes.Wish.{Wish}
 use Rattle.pg_run.specs.pg_store.Beginning.{begin, let_go, patches_of, put_new, take_patch, take_patches, take_told, take_told_in, with_intents}
 use Rattle.pg_run.specs.pg_store.Births.{wish_at, with_birth, with_wish, with_wishes}
 use Rattle.pg_run.specs.pg_store.Links.{is_linked, is_new_link, keys, link, put_link, unlink}
+use Rattle.pg_run.specs.pg_store.Seen.{removed_of, server_of}
 use Rattle.pg_run.specs.pg_store.Store.{acknowledge, is_new_version, is_newer_entry, is_newer_flag, is_newer_place, keep_delta, put_entry, put_flag, put_place, put_version, replica_at, take_entry, take_flag, take_place, take_version, touch, with_names, write}
 use Rattle.pg_run.specs.pg_store.Wishes.{aim_wish, aimed, aimed_at, wish_in, without_wish}
 use Rattle.pg_run.proofs.pg_store.Aiming.{aim_found}
@@ -65,8 +66,8 @@ module _ (n s : ℕ) (R : List ℕ) where
   Asks wish = wish.target ≢ 0 → IsTarget wish.target
 
   pub record IsSeen (a : Store) : Type 0 where
-    pub removed : a.names.removed ≡ R
-    pub server : a.names.server ≡ s
+    pub removed : removed_of a ≡ R
+    pub server : server_of a ≡ s
     pub servers : a.servers ≡ n
     pub edges : (file : FileId) (x : Replica) → replica_at a file ≡ Some x → Leads x
     pub wishes : (file : FileId) (wish : Wish) → wish_at a file ≡ Some wish → Asks wish
@@ -102,7 +103,7 @@ module _ (n s : ℕ) (R : List ℕ) where
   -- ---- changes by which no wish comes
 
   -- the same view, and these replicas
-  pub seen_by : (a b : Store) → b.names.removed ≡ a.names.removed → b.names.server ≡ a.names.server → b.servers ≡ a.servers
+  pub seen_by : (a b : Store) → removed_of b ≡ removed_of a → server_of b ≡ server_of a → b.servers ≡ a.servers
       → b.wishes ≡ a.wishes → AllLead b.replicas → IsSeen a → IsSeen b
   seen_by a b removed server servers wishes lead k = record {
     removed = removed ∙ k.removed;
@@ -112,7 +113,7 @@ module _ (n s : ℕ) (R : List ℕ) where
     wishes = λ file wish there. k.wishes file wish (ap (λ ws. wish_in ws file) (sym wishes) ∙ there);
   }
 
-  pub seen_names : (a : Store) (other : NamesValue) → other.removed ≡ a.names.removed → other.server ≡ a.names.server
+  pub seen_names : (a : Store) (other : NamesValue) → other.removed ≡ removed_of a → other.server ≡ server_of a
       → IsSeen a → IsSeen (with_names a other)
   seen_names a other removed server k = seen_by a (with_names a other) removed server refl refl k.edges k
 

@@ -15,6 +15,7 @@ use Rattle.pg_run.specs.pg_register.declared.flag.Flag.{Flag}
 use Rattle.pg_run.specs.pg_register.Flag.{first_other_gold, is_live, is_removed}
 use Rattle.pg_run.specs.pg_register.Flag.{is_live_other as is_live_other_flag}
 use Rattle.pg_run.specs.pg_store.declared.store.Store.{Store}
+use Rattle.pg_run.specs.pg_store.Seen.{removed_of, server_of}
 use Rattle.pg_run.specs.pg_store.Servers.{next_target}
 use Rattle.pg_run.specs.pg_store.Servers.{is_live_other as is_live_other_at}
 use Rattle.pg_run.specs.pg_lookup.declared.paths.Found.{Found}
@@ -29,10 +30,10 @@ module _ (n s : ℕ) (R : List ℕ) where
   next_asked : (t : ℕ) → Asked (next_of n s R t)
   next_asked t = next_lives n s R t
 
-  pub next_of_live : (a : Store) → a.servers ≡ n → a.names.server ≡ s → a.names.removed ≡ R → (t : ℕ) → Asked (next_target a t)
+  pub next_of_live : (a : Store) → a.servers ≡ n → server_of a ≡ s → removed_of a ≡ R → (t : ℕ) → Asked (next_target a t)
   next_of_live a servers server removed t =
-      subst (λ (m : ℕ). Asked (next_of m a.names.server a.names.removed t)) (sym servers)
-      (subst (λ (j : ℕ). Asked (next_of n j a.names.removed t)) (sym server)
+      subst (λ (m : ℕ). Asked (next_of m (server_of a) (removed_of a) t)) (sym servers)
+      (subst (λ (j : ℕ). Asked (next_of n j (removed_of a) t)) (sym server)
       (subst (λ (gone : List ℕ). Asked (next_of n s gone t)) (sym removed) (next_asked t)))
 
   pub next_live : (a : Store) → IsSeen n s R a → (t : ℕ) → Asked (next_target a t)
@@ -60,25 +61,25 @@ module _ (n s : ℕ) (R : List ℕ) where
       by false is more e = more e
 
   module _ (a : Store) (k : IsSeen n s R a) (flags : FlagsAreOf n a.names) where
-    same_gold : (fs : List Flag) → first_other_gold a.names.server a.names.removed fs ≡ first_other_gold s R fs
+    same_gold : (fs : List Flag) → first_other_gold (server_of a) (removed_of a) fs ≡ first_other_gold s R fs
     same_gold fs =
-        ap (λ (j : ℕ). first_other_gold j a.names.removed fs) k.server
+        ap (λ (j : ℕ). first_other_gold j (removed_of a) fs) k.server
         ∙ ap (λ (gone : List ℕ). first_other_gold s gone fs) k.removed
 
-    gold_by : (e : Entry) → All (IsFlagOf n) e.flags → (o : Option ℕ) → first_other_gold a.names.server a.names.removed e.flags ≡ o
-        → Asked (unwrap_or o (next_target a a.names.server))
-    gold_by e all None is = next_live a k a.names.server
+    gold_by : (e : Entry) → All (IsFlagOf n) e.flags → (o : Option ℕ) → first_other_gold (server_of a) (removed_of a) e.flags ≡ o
+        → Asked (unwrap_or o (next_target a (server_of a)))
+    gold_by e all None is = next_live a k (server_of a)
     gold_by e all (Some t) is = λ some. found_gold e.flags t all (sym (same_gold e.flags) ∙ is)
 
     cell_by : (dir file : FileId) (o : Option Entry) → cell_at a.names dir file ≡ o
-        → Asked (unwrap_or (gold_of a.names o) (next_target a a.names.server))
-    cell_by dir file None is = next_live a k a.names.server
+        → Asked (unwrap_or (gold_of a.names o) (next_target a (server_of a)))
+    cell_by dir file None is = next_live a k (server_of a)
     cell_by dir file (Some e) is =
-        gold_by e (flags dir file e is) (first_other_gold a.names.server a.names.removed e.flags) refl
+        gold_by e (flags dir file e is) (first_other_gold (server_of a) (removed_of a) e.flags) refl
 
     dir_asked : (file : FileId) (o : Option FileId)
-        → Asked (unwrap_or (gold_of a.names (cell_in a.names file o)) (next_target a a.names.server))
-    dir_asked file None = next_live a k a.names.server
+        → Asked (unwrap_or (gold_of a.names (cell_in a.names file o)) (next_target a (server_of a)))
+    dir_asked file None = next_live a k (server_of a)
     dir_asked file (Some dir) = cell_by dir file (cell_at a.names dir file) refl
 
     pub holder_asked : (found : Found) → Asked (holder a found)
@@ -86,24 +87,24 @@ module _ (n s : ℕ) (R : List ℕ) where
 
 -- ---- another live one, as a test
 
-pub live_parts : (a : Store) (t : ℕ) → is_live_other_at a t ≡ true → IsLiveOther a.servers a.names.server a.names.removed t
+pub live_parts : (a : Store) (t : ℕ) → is_live_other_at a t ≡ true → IsLiveOther a.servers (server_of a) (removed_of a) t
 live_parts a t h =
-    let one = and_parts (nat_le 1 t) (nat_le t a.servers && (not (t == a.names.server) && not (is_removed a.names.removed t))) h in
-    let two = and_parts (nat_le t a.servers) (not (t == a.names.server) && not (is_removed a.names.removed t)) one.1 in
-    let three = and_parts (not (t == a.names.server)) (not (is_removed a.names.removed t)) two.1 in
+    let one = and_parts (nat_le 1 t) (nat_le t a.servers && (not (t == server_of a) && not (is_removed (removed_of a) t))) h in
+    let two = and_parts (nat_le t a.servers) (not (t == server_of a) && not (is_removed (removed_of a) t)) one.1 in
+    let three = and_parts (not (t == server_of a)) (not (is_removed (removed_of a) t)) two.1 in
     record {
       from = leb-true 1 t one.0;
       upto = leb-true t a.servers two.0;
-      differs = not_equal t a.names.server three.0;
-      stays = not-true (is_removed a.names.removed t) three.1;
+      differs = not_equal t (server_of a) three.0;
+      stays = not-true (is_removed (removed_of a) t) three.1;
     }
 
-pub live_test : (a : Store) (t : ℕ) → IsLiveOther a.servers a.names.server a.names.removed t → is_live_other_at a t ≡ true
+pub live_test : (a : Store) (t : ℕ) → IsLiveOther a.servers (server_of a) (removed_of a) t → is_live_other_at a t ≡ true
 live_test a t k =
     let first : nat_le 1 t ≡ true = le-leb 1 t k.from in
     let upto : nat_le t a.servers ≡ true = le-leb t a.servers k.upto in
-    let apart : (t == a.names.server) ≡ false = ne_eqb t a.names.server k.differs in
-    ap (λ (x : Bool). x && (nat_le t a.servers && (not (t == a.names.server) && not (is_removed a.names.removed t)))) first
-    ∙ ap (λ (x : Bool). x && (not (t == a.names.server) && not (is_removed a.names.removed t))) upto
-    ∙ ap (λ (x : Bool). not x && not (is_removed a.names.removed t)) apart
+    let apart : (t == server_of a) ≡ false = ne_eqb t (server_of a) k.differs in
+    ap (λ (x : Bool). x && (nat_le t a.servers && (not (t == server_of a) && not (is_removed (removed_of a) t)))) first
+    ∙ ap (λ (x : Bool). x && (not (t == server_of a) && not (is_removed (removed_of a) t))) upto
+    ∙ ap (λ (x : Bool). not x && not (is_removed (removed_of a) t)) apart
     ∙ ap not k.stays

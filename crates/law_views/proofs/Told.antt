@@ -7,6 +7,7 @@ use Rattle.pg_run.proofs.theory_flood.Flood.{here}
 use Rattle.pg_run.specs.pg_intent.Target.{IsLiveOther}
 use Rattle.pg_run.specs.pg_register.Flag.{is_removed}
 use Rattle.pg_run.specs.pg_store.declared.store.Store.{Store}
+use Rattle.pg_run.specs.pg_store.Seen.{removed_of, server_of}
 use Rattle.pg_run.specs.pg_server.Local.{effect}
 use Rattle.pg_run.specs.Journal.{mail, removals}
 use Rattle.pg_run.specs.Run.{Step, Taking, World, next, run, start, taking_in}
@@ -23,7 +24,7 @@ pub views_are_prefixes : (n : ℕ) → StandOn n → ViewsArePrefixes n
 views_are_prefixes n stand events s least most =
     let a = (run n events).stores s in
     let k = (run_holds n stand events).servers s least most in
-    let R = a.names.removed in
+    let R = removed_of a in
     record {
       front = k.front;
       within = k.within;
@@ -31,7 +32,7 @@ views_are_prefixes n stand events s least most =
       edges = λ file x e there among. one_leads (IsPeer n s R) x.edges e among (k.seen.edges file x there);
       wishes = λ file wish there some.
           live_test a wish.target
-          (subst (λ (m : ℕ). IsLiveOther m a.names.server R wish.target) (sym k.seen.servers)
+          (subst (λ (m : ℕ). IsLiveOther m (server_of a) R wish.target) (sym k.seen.servers)
           (subst (λ (j : ℕ). IsLiveOther n j R wish.target) (sym k.seen.server) (k.seen.wishes file wish there some)));
     }
 
@@ -58,7 +59,7 @@ messages_are_sent n stand events event s asked takes m sent =
 
 module _ (n : ℕ) (stand : StandOn n) (s t : ℕ) where
   abbrev IsGone : Store → Type 0
-  IsGone a = is_removed a.names.removed t ≡ true
+  IsGone a = is_removed (removed_of a) t ≡ true
 
   framed_gone : (events : List Event) (event : Event) (o : Option Taking) (step : Step) → taking_in n (run n events) event ≡ o
       → IsFramed n (run n events) event o step → IsGone ((run n events).stores s) → IsGone (step.stores s)
@@ -71,8 +72,8 @@ module _ (n : ℕ) (stand : StandOn n) (s t : ℕ) where
       let k = run_holds n stand events in
       let left = leaves n stand events event u is f.0 k in
       let grown = front n stand events event u is f.0 k in
-      let later : is_removed a.names.removed t ≡ true → IsGone b =
-      λ h. ap (λ (xs : List ℕ). is_removed xs t) (left.seen.removed ∙ grown.grown) ∙ stays_removed a.names.removed grown.more t h in
+      let later : is_removed (removed_of a) t ≡ true → IsGone b =
+      λ h. ap (λ (xs : List ℕ). is_removed xs t) (left.seen.removed ∙ grown.grown) ∙ stays_removed (removed_of a) grown.more t h in
       subst (λ (z : Step). IsGone (z.stores s)) (sym f.1) (elim (here w.stores u.server b s) [
         | inl e ↦ subst IsGone (sym e.1) (later (subst (λ (i : ℕ). IsGone (w.stores i)) e.0 gone))
         | inr e ↦ subst IsGone (sym e.1) gone

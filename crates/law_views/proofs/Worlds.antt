@@ -18,7 +18,8 @@ use Rattle.pg_run.specs.pg_msg.Numbers.{is_in_range}
 use Rattle.pg_run.proofs.Bags.{All-every}
 use Rattle.pg_run.specs.pg_register.Flag.{is_removed}
 use Rattle.pg_run.specs.pg_store.declared.store.Store.{Store}
-use Rattle.pg_run.specs.pg_store.Servers.{is_live_other, view_of}
+use Rattle.pg_run.specs.pg_store.Seen.{removed_of, view_of}
+use Rattle.pg_run.specs.pg_store.Servers.{is_live_other}
 use Rattle.pg_run.specs.pg_store.Store.{is_before_clock_end, new_store}
 use Rattle.pg_run.specs.pg_calls.GivingUp.{is_next_view, may_give_up}
 use Rattle.pg_run.specs.pg_server.declared.input.Input.{Input}
@@ -26,7 +27,7 @@ use Rattle.pg_run.specs.pg_server.declared.input.Input.TheVariants as input
 use Rattle.pg_run.specs.pg_server.Local.{effect, is_heard}
 use Rattle.pg_run.specs.Journal.{mail, removals, removed_in}
 use Rattle.pg_run.specs.Run.{Taking, World, effect_step, idle_entry, idle_step, is_removal, run, start, taking_in, world_after}
-use Rattle.pg_run.proofs.Frame.{Acts, HasCome, WasDue, holds_in_runs}
+use Rattle.pg_run.proofs.Frame.{Acts, HasCome, WasDue, holds_in_runs, no_server_comes}
 use Rattle.pg_run.proofs.Removals.{none_removed, removals_grow}
 use Rattle.law_views.proofs.Effects.{Gives, HearsLive, Leaves, effect_leaves}
 use Rattle.law_views.proofs.Fine.{IsOfLive, IsSent}
@@ -39,10 +40,10 @@ use Rattle.law_views.specs.Premises.{StandOn}
 
 -- in a run with these removals
 pub record IsIn (n : ℕ) (gone : List ℕ) (s : ℕ) (a : Store) : Type 0 where
-  pub seen : IsSeen n s a.names.removed a
-  pub front : take (view_of a) gone ≡ a.names.removed
+  pub seen : IsSeen n s (removed_of a) a
+  pub front : take (view_of a) gone ≡ removed_of a
   pub within : view_of a ≤ length gone
-  pub own : is_removed a.names.removed s ≡ false
+  pub own : is_removed (removed_of a) s ≡ false
 
 -- whose senders have these stores
 pub record IsOf (gone : List ℕ) (stores : ℕ → Store) (m : Sent) : Type 0 where
@@ -86,27 +87,27 @@ pub record IsFront (gone : List ℕ) (s : ℕ) (a : Store) (view : List ℕ) : T
   pub within : length view ≤ length gone
   pub own : is_removed view s ≡ false
   pub more : List ℕ
-  pub grown : view ≡ a.names.removed ++ more
+  pub grown : view ≡ removed_of a ++ more
 
 next_number : (k v : ℕ) → k ≡ v + 1 → k ≡ suc v
 next_number k v h = omega (arith, h)
 
 module _ (n : ℕ) (gone : List ℕ) (s : ℕ) (a : Store) (k : IsIn n gone s a) where
-  stays_front : IsFront gone s a a.names.removed
+  stays_front : IsFront gone s a (removed_of a)
   stays_front = record {
     front = k.front;
     within = k.within;
     own = k.own;
     more = [];
-    grown = sym (append-nil a.names.removed);
+    grown = sym (append-nil (removed_of a));
   }
 
   -- a removal more, which is the next one
   given_front : (number server : ℕ) → may_give_up a number server ≡ true → is_removal gone number server ≡ true
-      → IsFront gone s a (a.names.removed ++ server ∷ [])
+      → IsFront gone s a (removed_of a ++ server ∷ [])
   given_front number server may due =
       let v = view_of a in
-      let R = a.names.removed in
+      let R = removed_of a in
       let parts = and_parts (is_next_view a number) (is_live_other a server) may in
       let count : number ≡ suc v = next_number number v (eqb-true number (v + 1) parts.0) in
       let now : is_removal gone (suc v) server ≡ true = subst (λ (j : ℕ). is_removal gone j server ≡ true) count due in
@@ -163,14 +164,14 @@ module _ (n : ℕ) (stand : StandOn n) (events : List Event) (event : Event) (t 
   in_view = k.servers S act.least act.most
 
   live_heard : (packet : Packet) → HasCome W S (input.Arrival packet) → is_heard A packet ≡ true
-      → IsOfLive A.names.removed packet.message
+      → IsOfLive (removed_of A) packet.message
   live_heard packet came heard =
       let m : Sent = record { to = S; packet = packet } in
       let is = All-contains (IsOf Gone W.stores) (mail W.journal) m k.messages came in
       let parts = and_parts (is_before_clock_end A) (packet.view == view_of A && (is_live_other A packet.from && is_in_range packet.message)) heard in
       let view : packet.view ≡ view_of A =
       eqb-true packet.view (view_of A) (and_parts (packet.view == view_of A) (is_live_other A packet.from && is_in_range packet.message) parts.1).0 in
-      let same : take packet.view Gone ≡ A.names.removed = ap (λ (j : ℕ). take j Gone) view ∙ in_view.front in
+      let same : take packet.view Gone ≡ removed_of A = ap (λ (j : ℕ). take j Gone) view ∙ in_view.front in
       subst (λ (xs : List ℕ). IsOfLive xs packet.message) same is.live
 
   live_by : (asked : Input) → HasCome W S asked → HearsLive A asked
@@ -188,7 +189,7 @@ module _ (n : ℕ) (stand : StandOn n) (events : List Event) (event : Event) (t 
       → is_removal Gone number server ≡ true
   due_by asked due moment number server is = subst (WasDue W) is due
 
-  front_by : (how : (leaves.view ≡ A.names.removed) ⊎ Gives A t.asked leaves.view) → IsFront Gone S A leaves.view
+  front_by : (how : (leaves.view ≡ removed_of A) ⊎ Gives A t.asked leaves.view) → IsFront Gone S A leaves.view
   front_by (inl same) = subst (IsFront Gone S A) (sym same) (stays_front n Gone S A in_view)
   front_by (inr g) =
       subst (IsFront Gone S A) (sym g.entered)
@@ -197,7 +198,7 @@ module _ (n : ℕ) (stand : StandOn n) (events : List Event) (event : Event) (t 
   pub front : IsFront Gone S A leaves.view
   front = front_by leaves.how
 
-  removed_is : B.names.removed ≡ leaves.view
+  removed_is : removed_of B ≡ leaves.view
   removed_is = leaves.seen.removed
 
   stays_in : IsIn n Gone S B
@@ -222,7 +223,7 @@ module _ (n : ℕ) (stand : StandOn n) (events : List Event) (event : Event) (t 
   longer =
       let one = ap (λ (xs : List ℕ). length xs) removed_is in
       let two = ap (λ (xs : List ℕ). length xs) front.grown in
-      let three = length-append A.names.removed front.more in
+      let three = length-append (removed_of A) front.more in
       omega (arith, one, two, three)
 
   later_by : (j : ℕ) → view_of (W.stores j) ≤ view_of (Then j)
@@ -295,5 +296,6 @@ run_holds n stand =
     holds_in_runs n (Holds n) (record {
       first = start_holds n;
       idle = idle_holds n;
+      comes = λ past event server is k. absurd (no_server_comes event server is);
       acts = λ events event t takes act k. acted_holds n stand events event t takes act k;
     })

@@ -1,24 +1,24 @@
 -- Where all places are of those that there are, and all flags of those, both are.
 use Rattle.std.proofs.Common.{ℕ, ◌≡◌, Bool, true, false, cond, List, All, refl, sym, ap, subst, ◌∙◌, inl, inr}
-use Rattle.law_printable.specs.pg_run.pg_base.declared.id.FileId.{FileId}
-use Rattle.law_printable.specs.pg_run.pg_base.Id.{is_same_file}
-use Rattle.law_printable.proofs.pg_run.pg_content.Members.{all_among}
-use Rattle.law_printable.specs.pg_run.pg_register.declared.flag.Flag.{Flag}
-use Rattle.law_printable.specs.pg_run.pg_register.declared.place.Place.{Place}
-use Rattle.law_printable.specs.pg_run.pg_register.Flag.{IsByServer}
-use Rattle.law_printable.specs.pg_run.pg_register.Place.{blank_place, root, root_place}
-use Rattle.law_printable.specs.pg_run.pg_entries.declared.cell.Cell.{Cell}
-use Rattle.law_printable.specs.pg_run.pg_entries.declared.cell.Cell.TheVariants as cell
-use Rattle.law_printable.specs.pg_run.pg_entries.declared.entry.Entry.{Entry}
-use Rattle.law_printable.specs.pg_run.pg_intent.declared.intent.Intent.TheVariants as intent
-use Rattle.law_printable.specs.pg_run.pg_intent.Intents.{HaveOwnKeys}
-use Rattle.law_printable.specs.pg_run.pg_msg.declared.message.Message.{Message}
-use Rattle.law_printable.specs.pg_run.pg_msg.declared.message.Message.TheVariants as message
+use Rattle.pg_run.specs.pg_base.declared.id.FileId.{FileId}
+use Rattle.pg_run.specs.pg_base.Id.{is_same_file}
+use Rattle.pg_run.proofs.pg_content.Members.{all_among}
+use Rattle.pg_run.specs.pg_register.declared.flag.Flag.{Flag}
+use Rattle.pg_run.specs.pg_register.declared.place.Place.{Place}
+use Rattle.pg_run.specs.pg_register.Flag.{IsByServer}
+use Rattle.pg_run.specs.pg_register.Place.{blank_place, root, root_place}
+use Rattle.pg_run.specs.pg_entries.declared.cell.Cell.{Cell}
+use Rattle.pg_run.specs.pg_entries.declared.cell.Cell.TheVariants as cell
+use Rattle.pg_run.specs.pg_entries.declared.entry.Entry.{Entry}
+use Rattle.pg_run.specs.pg_intent.declared.intent.Intent.TheVariants as intent
+use Rattle.pg_run.specs.pg_intent.Intents.{HaveOwnKeys}
+use Rattle.pg_run.specs.pg_msg.declared.message.Message.{Message}
+use Rattle.pg_run.specs.pg_msg.declared.message.Message.TheVariants as message
 use Rattle.law_repair.specs.law_births.Flags.{AnyBye, SaysCell, SaysIntent, SaysMessage, SaysStore}
 use Rattle.law_repair.specs.law_golds.Laws.{FlagsAreKnown}
-use Rattle.law_printable.specs.pg_run.Intending.{IntentionsAreInOrder}
-use Rattle.law_printable.specs.pg_run.Known.{AreTold, CarriedIsKnown, IsCellTold, IsFlagOf, IsMessageTold, IsPlaceOf, IsStoreTold, of_run}
-use Rattle.law_printable.specs.pg_run.Run.{World, run}
+use Rattle.pg_run.specs.Intending.{IntentionsAreInOrder}
+use Rattle.pg_run.specs.Known.{AreTold, CarriedIsKnown, IsCellTold, IsFlagOf, IsMessageTold, IsPlaceOf, IsStoreTold, of_run}
+use Rattle.pg_run.specs.Run.{World, run}
 use Rattle.law_returns.proofs.law_names.Patched.{found_own}
 use Rattle.law_intents.specs.law_order.Laws.{AllIsNamed, files_of}
 use Rattle.law_intents.specs.law_order.Named.{naming}

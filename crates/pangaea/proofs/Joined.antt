@@ -5,7 +5,7 @@ use Rattle.law_repair.specs.law_contents.Together as contents
 use Rattle.law_repair.specs.law_contents.Together.{HoldBoth}
 use Rattle.law_repair.specs.law_leaving.Premises as drops
 use Rattle.law_repair.specs.law_leaving.Premises.{StatesAreCited}
-use Rattle.law_printable.specs.pg_run.pg_entries.declared.entry.Entry.{Entry}
+use Rattle.pg_run.specs.pg_entries.declared.entry.Entry.{Entry}
 use Rattle.law_returns.specs.law_full.Filled.{FullPlaced, FullSays}
 use Rattle.law_repair.specs.law_golds.Laws.{FlagsAreKnown}
 use Rattle.law_repair.specs.law_golds.Premises.{NextIdsAreAway}
@@ -14,25 +14,25 @@ use Rattle.law_returns.specs.Gate.{EdgesAreKept}
 use Rattle.law_acks.specs.Histories.{HaveHistories}
 use Rattle.law_acks.specs.Laws.{StandOn}
 use Rattle.law_repair.specs.law_listings.Laws.{FirstEffectsAreSound, ListingsStandOn, RootIsUnlisted}
-use Rattle.law_printable.specs.pg_run.pg_names.Names.{cell_at}
+use Rattle.pg_run.specs.pg_names.Names.{cell_at}
 use Rattle.law_returns.specs.law_names.Merged.{NamesStandOn, NewIdsAreNew}
 use Rattle.law_intents.specs.law_order.Named.{IsOfServer}
 use Rattle.law_repair.specs.law_places.Laws.{OnePlaceAStamp}
 use Rattle.law_repair.specs.law_quiet.Given.{AgreementIsGiven, NamesAreWell, TreeIsGiven}
-use Rattle.law_printable.specs.pg_run.pg_register.Place.{root}
+use Rattle.pg_run.specs.pg_register.Place.{root}
 use Rattle.law_repair.specs.Given as repairs
-use Rattle.law_printable.specs.pg_run.Acknowledged.{AcknowledgedKeysAreHad}
-use Rattle.law_printable.specs.pg_run.Births.{BirthsAreAlone, BirthsAreKnown, BirthsMoveInEvents, BirthsMoveOn, LinksNameTheSender, ReplicasStayOrGo}
-use Rattle.law_printable.specs.pg_run.Golds.{FullReplicasSeeGold, ReplicasNameGolds}
-use Rattle.law_printable.specs.pg_run.Grown.{EventsGrow}
-use Rattle.law_printable.specs.pg_run.Histories.{CarriesHistory, MakesHistories, StateIsItsHeads}
-use Rattle.law_printable.specs.pg_run.Intending.{IntentionsAreInOrder}
-use Rattle.law_printable.specs.pg_run.Known.{CarriedIsKnown, FlagsAreOwn, FlagsHaveOwnNumbers, PlacesHaveOwnStamps}
-use Rattle.law_printable.specs.pg_run.Laws.{HoldsWhatItTook, NamesMerge, QuietDirectoriesAreBroughtBack, QuietNamesFormATree, QuietServersAgree, QuietThingsAreListedOnlyWhereTheyStand, names_after}
-use Rattle.law_printable.specs.pg_run.Leaving.{HeardEdgesAreKnown}
-use Rattle.law_printable.specs.pg_run.Run.{Taking}
-use Rattle.law_printable.specs.pg_run.Ticks.{TicksSendWhatIsOwed}
-use Rattle.law_printable.specs.pg_run.Views.{MessagesAreOfViews, ViewsArePrefixes}
+use Rattle.pg_run.specs.Acknowledged.{AcknowledgedKeysAreHad}
+use Rattle.pg_run.specs.Births.{BirthsAreAlone, BirthsAreKnown, BirthsMoveInEvents, BirthsMoveOn, LinksNameTheSender, ReplicasStayOrGo}
+use Rattle.pg_run.specs.Golds.{FullReplicasSeeGold, ReplicasNameGolds}
+use Rattle.pg_run.specs.Grown.{EventsGrow}
+use Rattle.pg_run.specs.Histories.{CarriesHistory, MakesHistories, StateIsItsHeads}
+use Rattle.pg_run.specs.Intending.{IntentionsAreInOrder}
+use Rattle.pg_run.specs.Known.{CarriedIsKnown, FlagsAreOwn, FlagsHaveOwnNumbers, PlacesHaveOwnStamps}
+use Rattle.pg_run.specs.Laws.{HoldsWhatItTook, NamesMerge, QuietDirectoriesAreBroughtBack, QuietNamesFormATree, QuietServersAgree, QuietThingsAreListedOnlyWhereTheyStand, names_after}
+use Rattle.pg_run.specs.Leaving.{HeardEdgesAreKnown}
+use Rattle.pg_run.specs.Run.{Taking}
+use Rattle.pg_run.specs.Ticks.{TicksSendWhatIsOwed}
+use Rattle.pg_run.specs.Views.{MessagesAreOfViews, ViewsArePrefixes}
 use Rattle.law_ticks.specs.Given.{IntentionsAreStill, TidinessIsGiven}
 use Rattle.law_views.specs.Premises as views
 use Rattle.law_views.specs.Premises.{IsFlagOf}

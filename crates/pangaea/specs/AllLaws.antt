@@ -2,33 +2,33 @@
 -- fewer than 2 ^ 32.
 use Rattle.std.specs.Prelude.{◌<◌, ◌^◌, ℕ}
 use Rattle.law_determined.specs.Determined.{NamesAreDetermined}
-use Rattle.law_turns.specs.law_begins.Confirms.{ConfirmsBeginOnly}
+use Rattle.law_steps.specs.law_refused.law_turns.law_begins.Confirms.{ConfirmsBeginOnly}
 use Rattle.law_confirms.specs.Confirms.{ConfirmsBeginAndStay}
 use Rattle.law_forgotten.specs.Forgets.{ForgetsStay}
 use Rattle.law_house.specs.Runs.{RulesGoBySteps}
 use Rattle.law_links.specs.Links.{AsksLinkTheAsker}
-use Rattle.law_refused.specs.Refusals.{RefusalsChangeNothing}
+use Rattle.law_steps.specs.law_refused.Refusals.{RefusalsChangeNothing}
 use Rattle.law_wants.specs.Wants.{AnEventAsksOne}
 use Rattle.law_lists.specs.Laws.{RemovalsStay, ReturnsList}
 use Rattle.law_repair.specs.law_places.Laws.{OnePlaceAStamp}
 use Rattle.law_rests.specs.Rests.{NoneIsUnderWayToRemoved, RemovedServersRest}
 use Rattle.law_stamps.specs.Stamps.{OneStampEach}
 use Rattle.law_took.specs.Takers.{ReplicasTookWhatCame}
-use Rattle.law_turns.specs.Turns.{IntentionsBeginInTurn}
+use Rattle.law_steps.specs.law_refused.law_turns.Turns.{IntentionsBeginInTurn}
 use Rattle.law_repair.specs.Kept.{KeptDirectoriesAreBroughtBack, KeptNamesFormATree, KeptServersAgree, KeptThingsAreConnected, KeptThingsAreListedOnlyWhereTheyStand}
-use Rattle.law_printable.specs.pg_run.Acknowledged.{AcknowledgedKeysAreHad}
-use Rattle.law_printable.specs.pg_run.Bodies.{BodiesAnswerWants, FirstHarbingersAsk, OneIsAskedAtATime}
-use Rattle.law_printable.specs.pg_run.Births.{BirthsAreAlone, BirthsAreKnown, BirthsAreOfOneThing, GreaterBirthsReplaceEdges, LinksNameTheSender}
-use Rattle.law_printable.specs.pg_run.Came.{TakesWhatCame}
-use Rattle.law_printable.specs.pg_run.Deltas.{KeepsWhatItMadeOrTook, WantsGetTheShortestChange}
-use Rattle.law_printable.specs.pg_run.Going.{EachPeerIsTold}
-use Rattle.law_printable.specs.pg_run.Golds.{FullReplicasSeeGold, ReplicasNameGolds}
-use Rattle.law_printable.specs.pg_run.Histories.{AncestryByVectors, CarriesHistory, ClockEndsFirst, MakesHistories, OneVersionAStamp, StateIsDetermined, StateIsItsHeads}
-use Rattle.law_printable.specs.pg_run.Intending.{IntentionsAreInOrder}
-use Rattle.law_printable.specs.pg_run.Laws.{HoldsWhatItTook, HouseIsInOrder, NamesMerge, QuietDirectoriesAreBroughtBack, QuietIsTold, QuietJoinedServersAgree, QuietNamesFormATree, QuietServersAgree, QuietThingsAreListedOnlyWhereTheyStand, ReturnsAreJustified}
-use Rattle.law_printable.specs.pg_run.Leaving.{ByesAreOver, DropsAreSafe, HeardEdgesAreKnown, WhatWentIsOver}
-use Rattle.law_printable.specs.pg_run.Ticks.{RestartsLoseWishes, TicksSendWhatIsOwed}
-use Rattle.law_printable.specs.pg_run.Views.{MessagesAreOfViews, ViewsArePrefixes}
+use Rattle.pg_run.specs.Acknowledged.{AcknowledgedKeysAreHad}
+use Rattle.pg_run.specs.Bodies.{BodiesAnswerWants, FirstHarbingersAsk, OneIsAskedAtATime}
+use Rattle.pg_run.specs.Births.{BirthsAreAlone, BirthsAreKnown, BirthsAreOfOneThing, GreaterBirthsReplaceEdges, LinksNameTheSender}
+use Rattle.pg_run.specs.Came.{TakesWhatCame}
+use Rattle.pg_run.specs.Deltas.{KeepsWhatItMadeOrTook, WantsGetTheShortestChange}
+use Rattle.pg_run.specs.Going.{EachPeerIsTold}
+use Rattle.pg_run.specs.Golds.{FullReplicasSeeGold, ReplicasNameGolds}
+use Rattle.pg_run.specs.Histories.{AncestryByVectors, CarriesHistory, ClockEndsFirst, MakesHistories, OneVersionAStamp, StateIsDetermined, StateIsItsHeads}
+use Rattle.pg_run.specs.Intending.{IntentionsAreInOrder}
+use Rattle.pg_run.specs.Laws.{HoldsWhatItTook, HouseIsInOrder, NamesMerge, QuietDirectoriesAreBroughtBack, QuietIsTold, QuietJoinedServersAgree, QuietNamesFormATree, QuietServersAgree, QuietThingsAreListedOnlyWhereTheyStand, ReturnsAreJustified}
+use Rattle.pg_run.specs.Leaving.{ByesAreOver, DropsAreSafe, HeardEdgesAreKnown, WhatWentIsOver}
+use Rattle.pg_run.specs.Ticks.{RestartsLoseWishes, TicksSendWhatIsOwed}
+use Rattle.pg_run.specs.Views.{MessagesAreOfViews, ViewsArePrefixes}
 
 pub record LawsOfRuns (servers : ℕ) : Type 0 where
   -- What each server took is what it made, what was delivered to it, and what was there from the

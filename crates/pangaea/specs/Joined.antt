@@ -3,7 +3,7 @@ use Rattle.std.specs.Prelude.{ℕ, ◌<◌, ◌^◌}
 use Rattle.law_confirms.specs.Confirms.{ConfirmsBeginAndStay}
 use Rattle.law_forgotten.specs.Forgets.{ForgetsStay}
 use Rattle.law_links.specs.Links.{AsksLinkTheAsker}
-use Rattle.law_refused.specs.Refusals.{RefusalsChangeNothing}
+use Rattle.law_steps.specs.law_refused.Refusals.{RefusalsChangeNothing}
 use Rattle.law_wants.specs.Wants.{AnEventAsksOne}
 use Rattle.law_repair.specs.law_contents.Together as contents
 use Rattle.law_repair.specs.law_contents.Together.{HoldBoth}
@@ -30,23 +30,23 @@ use Rattle.law_repair.specs.law_quiet.Laws.{QuietStoresAgree}
 use Rattle.law_repair.specs.Facts.{FullBegins, FullIsSaid, FullStays, GoldsRaiseNone}
 use Rattle.law_repair.specs.Given as repairs
 use Rattle.law_repair.specs.Kept.{KeptDirectoriesAreBroughtBack, KeptNamesFormATree, KeptServersAgree, KeptThingsAreConnected, KeptThingsAreListedOnlyWhereTheyStand}
-use Rattle.law_printable.specs.pg_run.Acknowledged.{AcknowledgedKeysAreHad}
-use Rattle.law_printable.specs.pg_run.Away.{DirectoriesAreTold, WhatBeginsIsAway}
-use Rattle.law_printable.specs.pg_run.Bodies.{BodiesAnswerWants, FirstHarbingersAsk, OneIsAskedAtATime}
-use Rattle.law_printable.specs.pg_run.Births.{BirthsAreAlone, BirthsAreKnown, BirthsAreOfOneThing, BirthsMoveInEvents, BirthsMoveOn, GoneSays, GreaterBirthsReplaceEdges, LinksNameTheSender, ReplicasStayOrGo}
-use Rattle.law_printable.specs.pg_run.Deltas.{KeepsWhatItMadeOrTook, WantsGetTheShortestChange}
-use Rattle.law_printable.specs.pg_run.Going.{BirthsEndByLeave, ByesBeginWhereOneGoes, ByesEndByAnswers, EachPeerIsTold, EdgesGoByWord, FlagsAreMadeWhereHeld}
-use Rattle.law_printable.specs.pg_run.Golds.{FullReplicasSeeGold, ReplicasNameGolds}
-use Rattle.law_printable.specs.pg_run.Grown.{EventsGrow, RunsGrow}
-use Rattle.law_printable.specs.pg_run.Histories.{AncestryByVectors, CarriesHistory, ClockEndsFirst, MakesHistories, OneVersionAStamp, StateIsDetermined, StateIsItsHeads}
-use Rattle.law_printable.specs.pg_run.Intending.{IntentionsAreInOrder}
-use Rattle.law_printable.specs.pg_run.Known.{CarriedIsKnown, FlagsAreOwn, FlagsHaveOwnNumbers, PlacesHaveOwnStamps, PlacesMadeArePast}
-use Rattle.law_printable.specs.pg_run.Laws.{HoldsWhatItTook, HouseIsInOrder, NamesMerge, QuietDirectoriesAreBroughtBack, QuietJoinedServersAgree, QuietNamesFormATree, QuietServersAgree, QuietThingsAreListedOnlyWhereTheyStand, ReturnsAreJustified}
-use Rattle.law_printable.specs.pg_run.Leaving.{ByesAreOver, DropsAreSafe, GiversHaveEachCell, HeardEdgesAreKnown, WhatWentIsOver}
-use Rattle.law_printable.specs.pg_run.Noted.{SourcesAnnounced}
-use Rattle.law_printable.specs.pg_run.Ruled.{EventsKeepTheRule, WhatGoesIsOver}
-use Rattle.law_printable.specs.pg_run.Ticks.{RestartsLoseWishes, TicksSendWhatIsOwed}
-use Rattle.law_printable.specs.pg_run.Views.{MessagesAreOfViews, MessagesAreSentInView, ViewsArePrefixes, ViewsGrow}
+use Rattle.pg_run.specs.Acknowledged.{AcknowledgedKeysAreHad}
+use Rattle.pg_run.specs.Away.{DirectoriesAreTold, WhatBeginsIsAway}
+use Rattle.pg_run.specs.Bodies.{BodiesAnswerWants, FirstHarbingersAsk, OneIsAskedAtATime}
+use Rattle.pg_run.specs.Births.{BirthsAreAlone, BirthsAreKnown, BirthsAreOfOneThing, BirthsMoveInEvents, BirthsMoveOn, GoneSays, GreaterBirthsReplaceEdges, LinksNameTheSender, ReplicasStayOrGo}
+use Rattle.pg_run.specs.Deltas.{KeepsWhatItMadeOrTook, WantsGetTheShortestChange}
+use Rattle.pg_run.specs.Going.{BirthsEndByLeave, ByesBeginWhereOneGoes, ByesEndByAnswers, EachPeerIsTold, EdgesGoByWord, FlagsAreMadeWhereHeld}
+use Rattle.pg_run.specs.Golds.{FullReplicasSeeGold, ReplicasNameGolds}
+use Rattle.pg_run.specs.Grown.{EventsGrow, RunsGrow}
+use Rattle.pg_run.specs.Histories.{AncestryByVectors, CarriesHistory, ClockEndsFirst, MakesHistories, OneVersionAStamp, StateIsDetermined, StateIsItsHeads}
+use Rattle.pg_run.specs.Intending.{IntentionsAreInOrder}
+use Rattle.pg_run.specs.Known.{CarriedIsKnown, FlagsAreOwn, FlagsHaveOwnNumbers, PlacesHaveOwnStamps, PlacesMadeArePast}
+use Rattle.pg_run.specs.Laws.{HoldsWhatItTook, HouseIsInOrder, NamesMerge, QuietDirectoriesAreBroughtBack, QuietJoinedServersAgree, QuietNamesFormATree, QuietServersAgree, QuietThingsAreListedOnlyWhereTheyStand, ReturnsAreJustified}
+use Rattle.pg_run.specs.Leaving.{ByesAreOver, DropsAreSafe, GiversHaveEachCell, HeardEdgesAreKnown, WhatWentIsOver}
+use Rattle.pg_run.specs.Noted.{SourcesAnnounced}
+use Rattle.pg_run.specs.Ruled.{EventsKeepTheRule, WhatGoesIsOver}
+use Rattle.pg_run.specs.Ticks.{RestartsLoseWishes, TicksSendWhatIsOwed}
+use Rattle.pg_run.specs.Views.{MessagesAreOfViews, MessagesAreSentInView, ViewsArePrefixes, ViewsGrow}
 use Rattle.law_ticks.specs.Given.{TidinessIsGiven}
 use Rattle.law_views.specs.Premises as views
 

@@ -1,9 +1,3 @@
-pub mod Acts
-pub mod Ending
-pub mod Laws
-pub mod Outside
 pub mod Promises
-pub mod Seen
-pub mod Written
 pub mod Joined
 pub mod AllLaws

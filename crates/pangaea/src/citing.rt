@@ -21,8 +21,8 @@ ghost use Rattle.std.specs.Prelude.{ℕ};
 ghost use Rattle.law_repair.specs.law_golds.Laws.{FlagsAreKnown};
 ghost use Rattle.law_intents.specs.law_order.Laws.{AllIsNamed};
 ghost use Rattle.law_repair.specs.law_places.Laws.{PlacesWereMade};
-ghost use Rattle.law_printable.specs.pg_run.Intending.{IntentionsAreInOrder};
-ghost use Rattle.law_printable.specs.pg_run.Known.{CarriedIsKnown};
+ghost use Rattle.pg_run.specs.Intending.{IntentionsAreInOrder};
+ghost use Rattle.pg_run.specs.Known.{CarriedIsKnown};
 ghost use Rattle.pangaea.specs.Joined.{AreCited};
 ghost use Rattle.pangaea.specs.AllLaws.{LawsOfRuns};
 
@@ -37,7 +37,6 @@ use law_intents::order::{all_is_named, house_is_in_order, servers_are_whole, wha
 use law_intents::{intentions_are_in_order, nothing_is_left_to_do};
 use law_links::asks_link_the_asker;
 use law_lists::{removals_stay, returns_list_a_child};
-use law_refused::refusals_change_nothing;
 use law_repair::births::{
     births_are_alone, births_are_known, births_move_on, edges_follow_births, events_of_leaving,
     gone_stays_gone,
@@ -62,10 +61,9 @@ use law_returns::full::full_replicas_have_places;
 use law_returns::names::names_are_what_was_taken;
 use law_returns::returns_are_justified;
 use law_stamps::stamps_are_drawn_once;
+use law_steps::{confirms_begin_only, intentions_begin_in_turn, refusals_change_nothing};
 use law_ticks::{restarts_lose_wishes, ticks_send_what_is_owed};
 use law_took::replicas_took_what_came;
-use law_turns::begins::confirms_begin_only;
-use law_turns::intentions_begin_in_turn;
 use law_views::{messages_are_of_views, views_are_prefixes};
 use law_wants::an_event_asks_one;
 use pg_run::{quiet_is_told, takes_are_what_came};

@@ -1,136 +1,30 @@
-//! The program's commands.
+//! What the program promises.
 
 ghost use Rattle.std.specs.Prelude.{◌≡◌, ◌≢◌, ◌<◌, ◌≤◌, ◌^◌, ◌↔◌, ◌⊎◌, ℕ, List, IfSome, Some, length, map};
 ghost use Rattle.std.specs.Io.KnownBytes.{IsAtEnd};
-ghost use Rattle.pangaea.specs.Acts as acts;
-ghost use Rattle.pangaea.specs.Ending as ending;
-ghost use Rattle.pangaea.specs.Outside as outside;
+ghost use Rattle.pg_program.specs.Ending as ending;
+ghost use Rattle.pg_program.specs.Outside as outside;
 ghost use Rattle.pangaea.specs.Promises as laws;
-ghost use Rattle.pangaea.specs.Seen.{seen};
-ghost use Rattle.pangaea.specs.Written as written;
+ghost use Rattle.pg_program.specs.Written as written;
 ghost use Rattle.pg_call.specs.declared.fault.Fault.{Fault};
 ghost use Rattle.pg_command.specs.Words as wording;
 ghost use Rattle.pg_command.specs.declared.command.Command.{Command};
 ghost use Rattle.pg_command.specs.declared.command.Help.{Help};
 ghost use Rattle.pg_command.specs.declared.command.Numbers.{Numbers};
-ghost use Rattle.pg_host.specs.Causes.{IsEnd};
 ghost use Rattle.pg_io.specs.Causes.{Rose};
 ghost use Rattle.pg_meter.specs.Note.{reading};
 ghost use Rattle.pg_sched.specs.Schedule.{IsFirstBad};
 
-use crate::call::call;
 use crate::citing::laws_of_runs;
-use crate::help::help;
-use crate::laws::lines_are_events;
-use crate::make::make;
-use crate::node::node;
-use crate::replay::replay;
-use crate::soak::soak;
 use law_shows::shows_are_states;
 use law_steps::refused_steps_change_nothing;
-use pg_command::{Command, CommandError, command_of};
 use pg_disk::Disk;
 use pg_event::Status;
 use pg_io::{Sink, Source};
 use pg_meter::Meter;
 use pg_net::{Clock, Net};
-use pg_replay::journals_are_alike;
+use pg_program::{heed, journals_are_alike, lines_are_events};
 use std::alloc::Global;
-
-/// The meters that are handed in, where a replay has some; else none.
-fn handed(alloc: Global, metered: bool, meters: Vec<Box<dyn Meter>>) -> Vec<Box<dyn Meter>>
-    ensures { map (λ m. reading (counts m) (counted m)) result.items
-        ≡ written.handed metered (map (λ m. reading (counts m) (counted m)) meters.items) }
-{
-    if metered { meters } else { Vec::new(alloc) }
-}
-
-/// Does what a command says.
-fn obey<S: Source, K: Sink, N: Net, D: Disk, C: Clock>(
-    alloc: Global,
-    command: Command,
-    source: &mut S,
-    sink: &mut K,
-    net: &mut N,
-    disk: &mut D,
-    clock: &mut C,
-    meters: Vec<Box<dyn Meter>>,
-) -> Status
-    requires { wording.IsCommand command }
-    ensures { acts.Obeys N.tells C.tells D.tells command
-        (map (λ m. reading (counts m) (counted m)) meters.items) result
-        (seen (S.remaining source.old) (S.faults source.old) (K.contents sink.old)
-        (K.faults sink.old) (N.told net.old) (N.takes net.old) (N.faults net.old)
-        (D.told disk.old) (D.faults disk.old) (C.told clock.old))
-        (seen (S.remaining source.new) (S.faults source.new) (K.contents sink.new)
-        (K.faults sink.new) (N.told net.new) (N.takes net.new) (N.faults net.new)
-        (D.told disk.new) (D.faults disk.new) (C.told clock.new))
-        source.old source.new sink.old sink.new net.old net.new disk.old disk.new
-        clock.old clock.new }
-{
-    match command {
-        Command::Replay { metered } => {
-            let meters = handed(alloc, metered, meters);
-            replay(alloc, source, sink, meters)
-        }
-        Command::Make(n) => make(alloc, n.seed, n.servers, n.events, sink, meters),
-        Command::Soak(n) => soak(alloc, n.seed, n.servers, n.events, sink, meters),
-        Command::Node {
-            server,
-            servers,
-            port,
-            name,
-            turns,
-        } => node(
-            alloc,
-            net,
-            disk,
-            clock,
-            server,
-            servers,
-            port,
-            name.as_slice(),
-            turns,
-        ),
-        Command::Call {
-            server,
-            port,
-            request,
-        } => call(alloc, net, server, port, request, sink),
-        Command::Help(asked) => help(alloc, asked, sink),
-    }
-}
-
-/// Does what the words ask for, or says which of them is at fault.
-fn heed<S: Source, K: Sink, N: Net, D: Disk, C: Clock>(
-    alloc: Global,
-    words: &Vec<String>,
-    source: &mut S,
-    sink: &mut K,
-    net: &mut N,
-    disk: &mut D,
-    clock: &mut C,
-    meters: Vec<Box<dyn Meter>>,
-) -> Status
-    ensures { acts.Heeds N.tells C.tells D.tells words.now
-        (map (λ m. reading (counts m) (counted m)) meters.items) result
-        (seen (S.remaining source.old) (S.faults source.old) (K.contents sink.old)
-        (K.faults sink.old) (N.told net.old) (N.takes net.old) (N.faults net.old)
-        (D.told disk.old) (D.faults disk.old) (C.told clock.old))
-        (seen (S.remaining source.new) (S.faults source.new) (K.contents sink.new)
-        (K.faults sink.new) (N.told net.new) (N.takes net.new) (N.faults net.new)
-        (D.told disk.new) (D.faults disk.new) (C.told clock.new))
-        source.old source.new sink.old sink.new net.old net.new disk.old disk.new
-        clock.old clock.new }
-{
-    match command_of(alloc, words) {
-        Ok(command) => obey(alloc, command, source, sink, net, disk, clock, meters),
-        Err(error) => match error {
-            CommandError::OutOfMemory => Status::OutOfMemory,
-            CommandError::Usage(word) => Status::Usage(word),
-        },
-    }
-}
 
 /// Does what the words ask for. Word 0 is the program's name.
 pub fn run<S: Source, K: Sink, N: Net, D: Disk, C: Clock>(
@@ -311,7 +205,7 @@ pub fn run<S: Source, K: Sink, N: Net, D: Disk, C: Clock>(
     ensures usage { (n : ℕ) → result ≡ Status.Usage n ↔ wording.IsFault words.now n }
     ensures read { result ≡ Status.ReadFault → Rose (S.faults source.old) (S.faults source.new) }
     ensures write { result ≡ Status.WriteFault → Rose (K.faults sink.old) (K.faults sink.new) }
-    ensures end { wording.AsksForNode words.now → IsEnd (N.faults net.old) (N.faults net.new)
+    ensures end { wording.AsksForNode words.now → outside.IsEnd (N.faults net.old) (N.faults net.new)
         (D.faults disk.old) (D.faults disk.new) result }
     ensures net { result ≡ Status.NetFault → Rose (N.faults net.old) (N.faults net.new) }
     ensures disk { result ≡ Status.DiskFault → Rose (D.faults disk.old) (D.faults disk.new) }

@@ -1,43 +1,29 @@
 //! Pangaea: what its servers do, replayed from a schedule, and done by nodes that run.
 //!
-//! `command` has `run`, with all that is promised; `replay`, `make`, `soak`, `node`, `call` and
-//! `help` are the commands, one module each, and `laws` ties the lines of a schedule to the events
-//! of its run. `citing` joins the laws of all runs: what each stands on the others say. What words
-//! ask for, and which is at fault, `pg_command` says; `pg_advice` says what to do about it.
+//! `command` has `run`, with all that is promised: what the words ask for is done by `pg_program`,
+//! a module a command, and the laws of all runs are told with it. `citing` joins these: what each
+//! stands on the others say. What words ask for, and which is at fault, `pg_command` says;
+//! `pg_advice` says what to do about it.
 //!
 //! `main` alone touches the system: it gathers the words, hands in the streams, the net of this
 //! machine, its files, its clock and one meter of each kind, and ends with the status. A node's
 //! files stand in the folder where the program was called, under the node's name.
 //!
-//! Definitions: `specs/Written` (what each command writes), `Outside` (what it does on a net, a
-//! disk and a clock, and what a crash leaves), `Acts` (all that a command does, in one record for
-//! each kind), `Ending`, `Promises` (what holds of every run). A further command: its words and
-//! slots in `pg_command`, an arm of `Acts` and of `Keeps`, and a module of its own.
+//! Definitions: `specs/Promises` (what holds of every run), over `AllLaws` and `Joined`;
+//! what commands write and do stands in `pg_program/specs`. A further law: see `citing`. A further
+//! command: see `pg_program`, and a clause of `run` where it promises what the others do not.
 #![tactic(auto)]
 
-mod call;
 mod citing;
 mod command;
-mod help;
-mod laws;
-mod make;
-mod node;
-mod replay;
-mod soak;
 
-pub use call::call;
 pub use command::run;
-pub use help::help;
-pub use make::make;
-pub use node::node;
 use pg_advice::{advice, name, port};
 use pg_disk::FileDisk;
 use pg_event::{MeterKind, Status};
 use pg_io::{Reading, Writing};
 use pg_meter::{Counter, Meter};
 use pg_net::{SystemClock, UdpNet};
-pub use replay::{LIMIT, replay};
-pub use soak::soak;
 use std::alloc::AllocError;
 use std::io::ErrorKind;
 use std::process::ExitCode;

@@ -9,6 +9,7 @@ use Rattle.pg_checks.specs.pg_lookup.declared.paths.LookupError.{LookupError}
 use Rattle.pg_checks.specs.pg_lookup.declared.paths.LookupError.TheVariants as stop
 use Rattle.pg_checks.specs.pg_lookup.Walk.{and_then}
 use Rattle.pg_cells.specs.pg_store.declared.store.Store.{Store}
+use Rattle.pg_cells.specs.pg_store.Seen.{server_of}
 use Rattle.pg_cells.specs.pg_store.Store.{replica_of}
 use Rattle.pg_checks.specs.Answer.{unless}
 use Rattle.pg_calls.specs.Bodies.{when_fit}
@@ -32,5 +33,5 @@ unless_ok false why x y h = (refl, same_ok x y h)
 -- what fits is the file itself
 pub fit_found : (store : Store) (ranges : RangesValue) (f g : FileId) → when_fit store ranges f ≡ Ok g → f ≡ g
 fit_found store ranges f g h =
-    let b = behind (unless (is_too_long (replica_of store f) ranges) TooLong f) (λ fit. unless (has_many_actors (replica_of store fit) store.names.server) ManyActors fit) g h in
-    (unless_ok (is_too_long (replica_of store f) ranges) TooLong f b.0 b.1).1 ∙ (unless_ok (has_many_actors (replica_of store b.0) store.names.server) ManyActors b.0 g b.2).1
+    let b = behind (unless (is_too_long (replica_of store f) ranges) TooLong f) (λ fit. unless (has_many_actors (replica_of store fit) (server_of store)) ManyActors fit) g h in
+    (unless_ok (is_too_long (replica_of store f) ranges) TooLong f b.0 b.1).1 ∙ (unless_ok (has_many_actors (replica_of store b.0) (server_of store)) ManyActors b.0 g b.2).1

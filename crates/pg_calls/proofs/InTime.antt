@@ -13,6 +13,7 @@ use Rattle.pg_cells.specs.pg_call.declared.refusal.Refusal.TheVariants.{ClockEnd
 use Rattle.pg_checks.specs.pg_lookup.declared.paths.LookupError.{LookupError}
 use Rattle.pg_checks.specs.pg_lookup.Walk.{and_then, reach, refused}
 use Rattle.pg_cells.specs.pg_store.declared.store.Store.{Store}
+use Rattle.pg_cells.specs.pg_store.Seen.{server_of}
 use Rattle.pg_cells.specs.pg_store.Store.{has_time, is_before_clock_end, replica_of}
 use Rattle.pg_cells.proofs.pg_store.InTime.{files_in_time}
 use Rattle.pg_checks.specs.declared.checks.Move.{Move}
@@ -76,21 +77,21 @@ same_name store a b text same = same_by store a b text (is_before_clock_end stor
 -- ---- numbers
 
 -- every replica has room for a version of the server
-pub room_in_time : (store : Store) (file : FileId) (server : ℕ) → server ≡ store.names.server → is_before_clock_end store ≡ true
+pub room_in_time : (store : Store) (file : FileId) (server : ℕ) → server ≡ server_of store → is_before_clock_end store ≡ true
     → has_room (replica_of store file) server ≡ true
 room_in_time store file server own time =
-    let none : have_own_end store.replicas store.names.server ≡ false =
-    not-true (have_own_end store.replicas store.names.server) (and_parts _ _ (and_parts (has_time store.names.last store.tags store.files store.births) _ time).1).0 in
+    let none : have_own_end store.replicas (server_of store) ≡ false =
+    not-true (have_own_end store.replicas (server_of store)) (and_parts _ _ (and_parts (has_time store.names.last store.tags store.files store.births) _ time).1).0 in
     let P : ℕ → Type 0 = λ s. has_room (replica_of store file) s ≡ true in
-    subst P (sym own) (room_without_end file store.names.server store.replicas none)
+    subst P (sym own) (room_without_end file (server_of store) store.replicas none)
 
 one_more : (f n : ℕ) → f < 2 ^ 62 → n ≡ min (f + 1) 18446744073709551615 → n ≡ f + 1
 one_more f n h e = grind arith
 
 -- the id that comes next, while the clock is not at its end
-pub is_next : (store : Store) (kind : Kind) (server number : ℕ) → server ≡ store.names.server
+pub is_next : (store : Store) (kind : Kind) (server number : ℕ) → server ≡ server_of store
     → number ≡ min (store.files + 1) 18446744073709551615 → is_before_clock_end store ≡ true
     → ◌≡◌ {A = FileId} (record { kind = kind; server = server; number = number }) (next_id store kind)
 is_next store kind server number own most time =
     let n : number ≡ store.files + 1 = one_more store.files number (files_in_time store time) most in
-    file_of_parts kind kind server store.names.server number (store.files + 1) refl own n
+    file_of_parts kind kind server (server_of store) number (store.files + 1) refl own n

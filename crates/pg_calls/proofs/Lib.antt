@@ -8,6 +8,7 @@ pub mod New
 mod Made
 mod Denials
 pub mod Missing
+pub mod Struck
 pub mod Refused
 pub mod Late
 pub mod Filled

@@ -17,7 +17,7 @@ use Rattle.pg_checks.specs.pg_lookup.declared.paths.Way.TheVariants as way
 use Rattle.pg_checks.specs.pg_lookup.Chain.{is_above}
 use Rattle.pg_checks.specs.pg_lookup.Walk.{and_then, has_more, is_dir_full, led_to, look_in, look_up, reach, reach_parent, reached, refused, shown_by, start, walk, walk_from}
 use Rattle.pg_cells.specs.pg_store.declared.store.Store.{Store}
-use Rattle.pg_cells.specs.pg_store.Servers.{view_of}
+use Rattle.pg_cells.specs.pg_store.Seen.{view_of}
 use Rattle.pg_cells.specs.pg_store.Store.{replica_of}
 use Rattle.pg_cells.specs.pg_pieces.Golds.{is_gold}
 use Rattle.pg_cells.specs.pg_pieces.Parting.{by_edge, by_intent, first_child as first_inside, has_child, if_gold, is_unclean, stays_for, unsettled_by}

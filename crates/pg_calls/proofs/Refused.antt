@@ -23,6 +23,7 @@ use Rattle.pg_checks.specs.pg_lookup.declared.paths.LookupError.TheVariants as s
 use Rattle.pg_cells.specs.pg_store.declared.store.Store.{Store}
 use Rattle.pg_cells.specs.pg_store.declared.wishes.Wish.{Wish}
 use Rattle.pg_cells.specs.pg_store.Births.{with_birth, with_wish}
+use Rattle.pg_cells.specs.pg_store.Seen.{server_of}
 use Rattle.pg_cells.specs.pg_store.Store.{is_full, replica_of}
 use Rattle.pg_cells.specs.pg_pieces.Done.{Done, idle}
 use Rattle.pg_cells.specs.pg_pieces.Posting.{post}
@@ -142,7 +143,7 @@ module _ (store : Store) (work : Work) (why : Refusal) where
   fits ranges file =
       stops_then (IsMissing store.names) (unless (is_too_long (replica_of store file) ranges) TooLong file) _
       (stops_unless (IsMissing store.names) (is_too_long (replica_of store file) ranges) TooLong file refl)
-      (λ fit. stops_unless (IsMissing store.names) (has_many_actors (replica_of store fit) store.names.server) ManyActors fit refl)
+      (λ fit. stops_unless (IsMissing store.names) (has_many_actors (replica_of store fit) (server_of store)) ManyActors fit refl)
 
   changes : (text : List ℕ) (ranges : RangesValue) → Left store work why (change store text ranges work)
   changes text ranges =

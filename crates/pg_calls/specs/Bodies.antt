@@ -12,6 +12,7 @@ use Rattle.pg_cells.specs.pg_call.declared.reply.Reply.TheVariants.{Bytes, Wrote
 use Rattle.pg_checks.specs.pg_lookup.declared.paths.LookupError.{LookupError}
 use Rattle.pg_checks.specs.pg_lookup.Walk.{and_then}
 use Rattle.pg_cells.specs.pg_store.declared.store.Store.{Store}
+use Rattle.pg_cells.specs.pg_store.Seen.{server_of}
 use Rattle.pg_cells.specs.pg_store.Store.{content_of, replica_of}
 use Rattle.pg_cells.specs.pg_pieces.Done.{idle}
 use Rattle.pg_checks.specs.Answer.{Answer, answer, answered, replied, unless}
@@ -24,7 +25,7 @@ use Rattle.pg_calls.specs.Making.{drawn, make_version}
 abbrev pub when_fit : Store → RangesValue → FileId → Result FileId LookupError
 when_fit store ranges file =
     and_then (unless (is_too_long (replica_of store file) ranges) TooLong file)
-    (λ fit. unless (has_many_actors (replica_of store fit) store.names.server) ManyActors fit)
+    (λ fit. unless (has_many_actors (replica_of store fit) (server_of store)) ManyActors fit)
 
 -- a version of a file is made with these ranges
 abbrev pub change_file : Store → RangesValue → Work → FileId → Answer

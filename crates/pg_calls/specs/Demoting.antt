@@ -13,6 +13,7 @@ use Rattle.pg_cells.specs.pg_call.declared.refusal.Refusal.TheVariants.{LastGold
 use Rattle.pg_cells.specs.pg_call.declared.reply.Reply.TheVariants.{Done as IsDone}
 use Rattle.pg_cells.specs.pg_store.declared.store.Store.{Store}
 use Rattle.pg_cells.specs.pg_store.Links.{is_clean}
+use Rattle.pg_cells.specs.pg_store.Seen.{removed_of}
 use Rattle.pg_cells.specs.pg_pieces.Done.{Done, idle}
 use Rattle.pg_cells.specs.pg_pieces.Golds.{flags_of, is_gold}
 use Rattle.pg_cells.specs.pg_pieces.Making.{lower_flag}
@@ -24,7 +25,7 @@ use Rattle.pg_checks.specs.Checks.{target_at}
 -- the flag of a live gold replica, to which there is an edge with nothing unacknowledged
 abbrev pub is_clean_gold : Store → FileId → Flag → Bool
 is_clean_gold store file flag =
-    is_live store.names.removed flag && is_clean store file flag.server flag.birth
+    is_live (removed_of store) flag && is_clean store file flag.server flag.birth
 
 -- a clean edge matches a raised flag of a live server
 abbrev pub has_clean_gold : Store → FileId → Bool

@@ -11,7 +11,8 @@ use Rattle.pg_cells.specs.pg_names.Names.{InodeValue, NamesValue, directories, k
 use Rattle.pg_checks.specs.pg_lookup.declared.paths.LookupError.{LookupError}
 use Rattle.pg_checks.specs.pg_lookup.Walk.{and_then}
 use Rattle.pg_cells.specs.pg_store.declared.store.Store.{Store}
-use Rattle.pg_cells.specs.pg_store.Servers.{is_live_other, view_of}
+use Rattle.pg_cells.specs.pg_store.Seen.{view_of}
+use Rattle.pg_cells.specs.pg_store.Servers.{is_live_other}
 use Rattle.pg_cells.specs.pg_store.Views.{enter}
 use Rattle.pg_cells.specs.pg_pieces.Done.{Done, idle}
 use Rattle.pg_intentions.specs.Inviting.{invite_all}

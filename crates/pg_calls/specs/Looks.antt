@@ -19,7 +19,7 @@ use Rattle.pg_cells.specs.pg_call.declared.reply.Stat.{Stat}
 use Rattle.pg_cells.specs.pg_call.declared.reply.Counts.{Counts}
 use Rattle.pg_cells.specs.pg_store.declared.store.Store.{Store}
 use Rattle.pg_cells.specs.pg_store.Births.{birth_of}
-use Rattle.pg_cells.specs.pg_store.Servers.{view_of}
+use Rattle.pg_cells.specs.pg_store.Seen.{removed_of, server_of, view_of}
 use Rattle.pg_cells.specs.pg_store.Store.{content_of, replica_of}
 use Rattle.pg_cells.specs.Counts.{key_count}
 use Rattle.pg_checks.specs.Answer.{Answer, replied}
@@ -73,8 +73,8 @@ abbrev pub stat_with : Store → FileId → Attributes → Stat
 stat_with store file own = record {
   id = file;
   place = own.place;
-  gold = is_raised own.flags store.names.server (birth_of store file);
-  golds = count_by (is_live store.names.removed) own.flags;
+  gold = is_raised own.flags (server_of store) (birth_of store file);
+  golds = count_by (is_live (removed_of store)) own.flags;
   heads = head_count store file;
   length = shown_length store file;
   edges = length (replica_of store file).edges;

@@ -12,13 +12,14 @@ use Rattle.pg_cells.specs.pg_msg.declared.update.Update.TheVariants as update
 use Rattle.pg_cells.specs.pg_msg.declared.work.Work.{Work}
 use Rattle.pg_cells.specs.pg_msg.Work.{with_made, with_touched}
 use Rattle.pg_cells.specs.pg_store.declared.store.Store.{Store}
+use Rattle.pg_cells.specs.pg_store.Seen.{server_of}
 use Rattle.pg_cells.specs.pg_store.Store.{content_of, has_replica, write}
 use Rattle.pg_cells.specs.pg_pieces.Done.{Done}
 use Rattle.pg_cells.specs.pg_pieces.Taking.{take_place_noted}
 
 -- the stamp that the server draws next, at this moment
 abbrev pub drawn : Store → ℕ → Stamp
-drawn store moment = next_stamp moment store.names.last store.names.server
+drawn store moment = next_stamp moment store.names.last (server_of store)
 
 -- a place is made, and taken
 abbrev pub make_place : FileId → Place → Done → Done

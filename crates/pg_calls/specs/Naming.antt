@@ -12,6 +12,7 @@ use Rattle.pg_cells.specs.pg_call.declared.reply.Reply.TheVariants.{Done as IsDo
 use Rattle.pg_cells.specs.pg_store.declared.store.Store.{Store}
 use Rattle.pg_cells.specs.pg_store.Beginning.{begin}
 use Rattle.pg_cells.specs.pg_store.Births.{draw_birth, with_birth}
+use Rattle.pg_cells.specs.pg_store.Seen.{server_of}
 use Rattle.pg_cells.specs.pg_pieces.Done.{Done, idle}
 use Rattle.pg_cells.specs.pg_pieces.Making.{raise_flag}
 use Rattle.pg_checks.specs.declared.checks.Move.{Move}
@@ -23,7 +24,7 @@ use Rattle.pg_calls.specs.Making.{drawn, first_ranges, make_place, make_version}
 -- the id that the server gives out next
 abbrev pub next_id : Store → Kind → FileId
 next_id store kind =
-    record { kind = kind; server = store.names.server; number = store.files + 1 }
+    record { kind = kind; server = server_of store; number = store.files + 1 }
 
 -- it was given out
 abbrev pub with_id : Store → Store

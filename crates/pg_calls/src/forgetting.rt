@@ -1,9 +1,9 @@
 //! What was lost is given up.
 
-ghost use Rattle.std.specs.Prelude.{◌≡◌, ◌<◌, ◌^◌, IfOk, None, OnOk};
+ghost use Rattle.std.specs.Prelude.{◌≡◌, ◌<◌, ◌^◌, IfOk, None, OnOk, true};
 ghost use Rattle.std.specs.List.{list_any};
 ghost use Rattle.pg_checks.specs.Answer.{Tells};
-ghost use Rattle.pg_calls.specs.Forgetting.{begin_lost, begun_at, begun_with, dead_at, fill_lost, forget, forget_lost, has_blank_place, if_live, is_patch_to, is_wanted_by, lost_at, mark, marked_each, place_in, placed_in_root, placed_lost, root_place, strike_from, strike_out, unless_full};
+ghost use Rattle.pg_calls.specs.Forgetting.{begin_lost, begun_at, begun_with, dead_at, fill_lost, forget, forget_lost, has_blank_place, has_cell_for, if_live, is_patch_to, is_wanted_by, lost_at, mark, marked_each, place_in, placed_in_root, placed_lost, root_place, strike_from, strike_out, unless_full};
 
 use crate::demoting::unless_root;
 use crate::making::{make_place, next_stamp};
@@ -14,8 +14,7 @@ use pg_cells::msg::{Update, Work};
 use pg_cells::names::{Attributes, Names, is_dir, is_same_stamp};
 use pg_cells::pieces::{raise_flag, take_entry};
 use pg_cells::store::{COUNTER_LIMIT, Store};
-use pg_checks::lookup::ROOT;
-use pg_checks::{CallError, deny, dirs_of, in_time, last_cell, last_listing};
+use pg_checks::{CallError, ROOT, deny, dirs_of, in_time, last_cell, last_listing};
 use pg_entries::Entry;
 use pg_intentions::repair::fill;
 use pg_register::{GoldFlags, Place, tilde_name};
@@ -136,11 +135,12 @@ fn mark_each(
 
 /// A dead place with the next stamp, where the directory's cell says that the thing stands.
 fn dead_at(store: &Store, moment: u64, id: FileId, dir: FileId) -> Result<Place, AllocError>
-    requires { store.now.names.last < 2 ^ 63 }
+    requires last { store.now.names.last < 2 ^ 63 }
+    requires there { has_cell_for store.now.names id dir ≡ true }
     ensures { IfOk result (λ place. place ≡ dead_at store.now moment id dir) }
 {
     let Some(entry) = store.names.entry(&dir, &id) else {
-        return Err(AllocError);
+        unreachable!();
     };
     let known = entry.place.copy()?;
     Ok(Place {
@@ -151,8 +151,8 @@ fn dead_at(store: &Store, moment: u64, id: FileId, dir: FileId) -> Result<Place,
     })
 }
 
-/// Of a file that is not held the cells in these directories take a dead place, which is made. The
-/// wish for it ends.
+/// Of a file that is not held the cells in these directories take a dead place, which is made of
+/// that in one which has a cell for it. The wish for it ends.
 fn strike_from(
     store: &mut Store,
     id: FileId,
@@ -160,7 +160,8 @@ fn strike_from(
     dirs: &[FileId],
     work: &mut Work,
 ) -> Result<(), AllocError>
-    requires { store.old.names.last < 2 ^ 63 }
+    requires last { store.old.names.last < 2 ^ 63 }
+    requires there { has_cell_for store.old.names id dir ≡ true }
     ensures store { OnOk result
         (store.new ≡ (strike_from store.old id dir dirs.now work.old).store) }
     ensures work { OnOk result
@@ -178,6 +179,7 @@ fn strike_from(
 
 /// A file that is not held, and that a held directory lists, has a dead place from then on,
 /// wherever it is known.
+#[tactic(auto, using(crate::proofs::Struck::listing_there))]
 fn strike_out(store: &mut Store, id: FileId, work: &mut Work) -> Result<(), AllocError>
     requires { store.old.names.last < 2 ^ 63 }
     ensures store { OnOk result (store.new ≡ (strike_out store.old id work.old).store) }

@@ -32,9 +32,13 @@ mod naming;
 
 pub use calls::do_call;
 pub use laws::{late_calls_do_nothing, refused_calls_only_ask, what_is_filling_is_not_wished};
-
-// What the floors above name through this one.
-pub use pg_cells as cells;
-pub use pg_cells::{call, house, intent, msg, names, pieces, replica, store};
-pub use pg_intentions as intentions;
+pub use pg_cells::{call, house, intent, msg, replica, store};
 pub use pg_intentions::{graph, repair};
+
+pub mod cells {
+    pub use pg_cells::{ack, cell, finish, settle, tick};
+}
+
+pub mod intentions {
+    pub use pg_intentions::{ask_all, ask_begun, begin_end};
+}

@@ -22,6 +22,7 @@ use Rattle.pg_pieces.proofs.pg_house.Keys.{rules_by}
 use Rattle.pg_pieces.specs.pg_names.Names.{NamesValue, known}
 use Rattle.pg_pieces.specs.pg_store.declared.store.Store.{Store}
 use Rattle.pg_pieces.specs.pg_store.Births.{birth_of}
+use Rattle.pg_pieces.specs.pg_store.Seen.{removed_of, server_of}
 use Rattle.pg_pieces.specs.pg_store.Store.{with_names}
 use Rattle.pg_pieces.specs.Done.{Done, idle}
 use Rattle.pg_cells.proofs.Listed.{none_pass}
@@ -35,7 +36,7 @@ use Rattle.pg_cells.proofs.Live.{goldless_parts, other_same, sees_itself}
 -- ---- from one thing to the next
 
 abbrev IsLive : Store → Type 0
-IsLive store = is_removed store.names.removed store.names.server ≡ false
+IsLive store = is_removed (removed_of store) (server_of store) ≡ false
 
 -- only these may see no live gold
 abbrev OnlyThese : Store → List FileId → Type 0
@@ -90,14 +91,14 @@ none_left (f ∷ fs) d calm live only q =
     let t = is_goldless d.store f in
     let next = Next d f fs calm t in
     let k = next_golds d f fs calm t in
-    let still : IsLive next.store = ap (λ r. is_removed r next.store.names.server) k.removed ∙ ap (is_removed d.store.names.removed) k.server ∙ live in
+    let still : IsLive next.store = ap (λ r. is_removed r (server_of next.store)) k.removed ∙ ap (is_removed (removed_of d.store)) k.server ∙ live in
     none_left fs next (next_calm d f fs calm t) still (next_only d f fs calm live only t refl) q
 
 -- ---- behind the first run of the rules
 
 all_goldless : (store : Store) → OnlyThese store (goldless store)
 all_goldless store q h =
-    let own = goldless_parts store.names.removed store.names.server (birth_of store q) (known store.names q) h in
+    let own = goldless_parts (removed_of store) (server_of store) (birth_of store q) (known store.names q) h in
     among_kept (is_goldless store) (keys_of store.names.held) q (key_of_held store.names q own.0 own.1) h
 
 module _ (store : Store) (work : Work) (of_dirs : IsOfDirs store.names) (sorted : AreByServer store.names) (last : IsLast store.names) (ordered : AreOrdered store.names) where
@@ -139,14 +140,14 @@ pub rules_again : (store : Store) (work next : Work) → IsOfDirs store.names �
 rules_again store work next of_dirs sorted last ordered = calm_ruled (settle store work).store next (settle_calm store work of_dirs sorted last ordered)
 
 module _ (store : Store) (work : Work) (of_dirs : IsOfDirs store.names) (sorted : AreByServer store.names) (last : IsLast store.names) (ordered : AreOrdered store.names)
-    (live : is_removed store.names.removed store.names.server ≡ false) where
+    (live : is_removed (removed_of store) (server_of store) ≡ false) where
   still_live : IsLive (rules store work).store
   still_live =
       let st = state_of store.names work in
       let names = names_behind store work of_dirs sorted last ordered in
       let by = rules_by work.now st in
       subst (λ (n : NamesValue). is_removed n.removed n.server ≡ false) (sym names)
-      (ap (λ r. is_removed r (house work.now st).names.server) by.1 ∙ ap (is_removed store.names.removed) by.0 ∙ live)
+      (ap (λ r. is_removed r (house work.now st).names.server) by.1 ∙ ap (is_removed (removed_of store)) by.0 ∙ live)
 
   pub none_goldless : (file : FileId) → is_goldless (settle store work).store file ≡ false
   none_goldless =

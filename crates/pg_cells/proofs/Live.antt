@@ -18,6 +18,7 @@ use Rattle.pg_pieces.specs.pg_replica.declared.replica.Replica.{Replica}
 use Rattle.pg_pieces.specs.pg_replica.Replicas.{or_nothing}
 use Rattle.pg_pieces.specs.pg_store.declared.store.Store.{Store}
 use Rattle.pg_pieces.specs.pg_store.Births.{birth_of}
+use Rattle.pg_pieces.specs.pg_store.Seen.{removed_of, server_of}
 use Rattle.pg_pieces.specs.pg_store.Store.{is_newer_flag, replica_at}
 use Rattle.pg_pieces.specs.pg_store.Together.{birth_at}
 use Rattle.pg_pieces.specs.Done.{Done}
@@ -108,13 +109,13 @@ module _ (f : FileId) (d : Done) (calm : IsCalm d.store.names) where
   other_same q apart =
       let o = known d.store.names q in
       let p = known E.store.names q in
-      ap (λ r. is_goldless_held r E.store.names.server (birth_of E.store q) p) k.removed
-      ∙ ap (λ s. is_goldless_held d.store.names.removed s (birth_of E.store q) p) k.server
-      ∙ ap (λ n. is_goldless_held d.store.names.removed d.store.names.server n p) (birth_same d.store E.store q (k.births q))
-      ∙ goldless_same d.store.names.removed d.store.names.server (birth_of d.store q) o p
+      ap (λ r. is_goldless_held r (server_of E.store) (birth_of E.store q) p) k.removed
+      ∙ ap (λ s. is_goldless_held (removed_of d.store) s (birth_of E.store q) p) k.server
+      ∙ ap (λ n. is_goldless_held (removed_of d.store) (server_of d.store) n p) (birth_same d.store E.store q (k.births q))
+      ∙ goldless_same (removed_of d.store) (server_of d.store) (birth_of d.store q) o p
       (raised_own f d calm q ∙ other_own (is_newer_flag d.store f Flag_made) q apart) (k.full q)
 
-  module _ (is : is_goldless d.store f ≡ true) (live : is_removed d.store.names.removed d.store.names.server ≡ false) where
+  module _ (is : is_goldless d.store f ≡ true) (live : is_removed (removed_of d.store) (server_of d.store) ≡ false) where
     abbrev S : NamesValue
     S = d.store.names
 
@@ -148,7 +149,7 @@ module _ (f : FileId) (d : Done) (calm : IsCalm d.store.names) where
 
     pub sees_itself : is_goldless E.store f ≡ false
     sees_itself =
-        let gone : is_removed E.store.names.removed S.server ≡ false = ap (λ r. is_removed r S.server) k.removed ∙ live in
-        let seen : sees_gold E.store.names.removed (join_flag parts.0.flags Flag_made) ≡ true =
-        flag_seen E.store.names.removed (join_flag parts.0.flags Flag_made) S.server Flag_made there (ap not gone) in
-        not_goldless E.store.names.removed E.store.names.server (birth_of E.store f) (known E.store.names f) (own_with_flag Flag_made parts.0) own_after seen
+        let gone : is_removed (removed_of E.store) S.server ≡ false = ap (λ r. is_removed r S.server) k.removed ∙ live in
+        let seen : sees_gold (removed_of E.store) (join_flag parts.0.flags Flag_made) ≡ true =
+        flag_seen (removed_of E.store) (join_flag parts.0.flags Flag_made) S.server Flag_made there (ap not gone) in
+        not_goldless (removed_of E.store) (server_of E.store) (birth_of E.store f) (known E.store.names f) (own_with_flag Flag_made parts.0) own_after seen

@@ -27,6 +27,7 @@ use Rattle.pg_pieces.proofs.pg_house.Flagging.{flagged_place}
 use Rattle.pg_pieces.proofs.pg_house.Raised.{differs_not, raised_calm, raised_differs}
 use Rattle.pg_pieces.proofs.pg_house.Settling.{calm_stays}
 use Rattle.pg_pieces.specs.pg_store.declared.store.Store.{Store}
+use Rattle.pg_pieces.specs.pg_store.Seen.{removed_of, server_of}
 use Rattle.pg_pieces.specs.pg_store.Store.{is_newer_flag, put_flag, touch, with_names}
 use Rattle.pg_pieces.specs.pg_store.Together.{birth_at}
 use Rattle.pg_pieces.proofs.pg_store.Pairs.{touch_as_before}
@@ -130,8 +131,8 @@ module _ (f : FileId) (d : Done) where
         keys = carried (λ n. keys_of n.held ≡ keys_of d.store.names.held) k.keys;
         births = λ q. touched_births Keys (with_names d.store After.names) q;
         last = carried (λ n. n.last ≡ d.store.names.last) k.last;
-        server = carried (λ n. n.server ≡ d.store.names.server) k.server;
-        removed = carried (λ n. n.removed ≡ d.store.names.removed) k.removed;
+        server = carried (λ n. n.server ≡ server_of d.store) k.server;
+        removed = carried (λ n. n.removed ≡ removed_of d.store) k.removed;
         store = touched_rest Keys (with_names d.store After.names)
             ∙ ap (λ (n : NamesValue). let y : Store = record d.store { tags = (ruled d).store.tags; names = n; replicas = (ruled d).store.replicas } in y) (sym ruled_names);
         made = ([], made ∙ sym (append-nil d.work.made), λ i u lt. absurd (omega (arith, lt)));

@@ -8,6 +8,7 @@ use Rattle.pg_pieces.specs.pg_msg.declared.update.Update.{Update}
 use Rattle.pg_pieces.specs.pg_msg.declared.update.Update.TheVariants as update
 use Rattle.pg_pieces.specs.pg_names.Names.{cell_at, is_full, own_at}
 use Rattle.pg_pieces.specs.pg_house.Calm.{IsSameOrPlaced, held_place}
+use Rattle.pg_pieces.specs.pg_store.Seen.{removed_of, server_of}
 use Rattle.pg_pieces.specs.pg_store.Together.{birth_at}
 use Rattle.pg_pieces.specs.Done.{Done}
 
@@ -33,8 +34,8 @@ pub record DiffersByGolds (before after : Done) : Type 0 where
   pub keys : keys_of after.store.names.held ≡ keys_of before.store.names.held
   pub births : (file : FileId) → birth_at after.store file ≡ birth_at before.store file
   pub last : after.store.names.last ≡ before.store.names.last
-  pub server : after.store.names.server ≡ before.store.names.server
-  pub removed : after.store.names.removed ≡ before.store.names.removed
+  pub server : server_of after.store ≡ server_of before.store
+  pub removed : removed_of after.store ≡ removed_of before.store
   pub store : after.store ≡ record before.store {
     tags = after.store.tags;
     names = after.store.names;

@@ -8,6 +8,7 @@ ghost use Rattle.pg_pieces.specs.pg_msg.declared.work.Work.{Work};
 ghost use Rattle.pg_pieces.specs.pg_house.Calm.{IsCalm};
 ghost use Rattle.pg_pieces.specs.pg_house.Facts.{AreByServer, AreOrdered, IsLast, IsOfDirs};
 ghost use Rattle.pg_pieces.specs.pg_store.declared.store.Store.{Store};
+ghost use Rattle.pg_pieces.specs.pg_store.Seen.{removed_of, server_of};
 ghost use Rattle.pg_pieces.specs.Done.{idle};
 ghost use Rattle.pg_pieces.specs.Golds.{is_goldless};
 ghost use Rattle.pg_cells.specs.Raised.{DiffersByGolds};
@@ -31,7 +32,7 @@ pub fn golds_change_flags_alone()
 pub fn every_full_thing_sees_a_gold()
     ensures { (store : Store) (work : Work) → IsOfDirs store.names → AreByServer store.names
         → IsLast store.names → AreOrdered store.names
-        → is_removed store.names.removed store.names.server ≡ false
+        → is_removed (removed_of store) (server_of store) ≡ false
         → (file : FileId) → is_goldless (settle store work).store file ≡ false }
 {}
 
@@ -42,6 +43,6 @@ pub fn settled_stores_stay()
         → rules (settle store work).store next ≡ idle (settle store work).store next }
     ensures settle { (store : Store) (work next : Work) → IsOfDirs store.names
         → AreByServer store.names → IsLast store.names → AreOrdered store.names
-        → is_removed store.names.removed store.names.server ≡ false
+        → is_removed (removed_of store) (server_of store) ≡ false
         → settle (settle store work).store next ≡ idle (settle store work).store next }
 {}

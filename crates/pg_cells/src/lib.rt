@@ -43,6 +43,11 @@ pub use laws::{
 pub use settling::settle;
 pub use ticks::tick;
 
-// What the floors above name through this one.
-pub use pg_pieces as pieces;
+// What the crates above name through this one.
 pub use pg_pieces::{call, house, intent, msg, names, replica, store};
+
+pub mod pieces {
+    pub use pg_pieces::{
+        begin_intent, is_gold, lower_flag, raise_flag, stays_for, take_entry, take_place,
+    };
+}

@@ -17,6 +17,7 @@ use Rattle.pg_lookup.specs.declared.paths.Way.TheVariants as way
 use Rattle.pg_pieces.specs.pg_store.declared.store.Store.{Store}
 use Rattle.pg_pieces.specs.pg_store.declared.wishes.Wish.{Wish}
 use Rattle.pg_pieces.specs.pg_store.Births.{draw_birth, fill_at, wish_at, with_birth, with_wish}
+use Rattle.pg_pieces.specs.pg_store.Seen.{server_of}
 use Rattle.pg_pieces.specs.pg_store.Servers.{next_target}
 use Rattle.pg_pieces.specs.Done.{Done, idle}
 use Rattle.pg_pieces.specs.Posting.{post}
@@ -64,7 +65,7 @@ abbrev pub holder : Store → Found → ℕ
 holder store found = unwrap_or
     (gold_of store.names
     (cell_in store.names found.file (dir_by store.names found.file found.way)))
-    (next_target store store.names.server)
+    (next_target store (server_of store))
 
 -- ---- with which birth
 

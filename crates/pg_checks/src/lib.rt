@@ -32,4 +32,4 @@ pub use checks::{
 };
 pub use listing::{dirs_of, last_cell, last_listing};
 pub use paths::Paths;
-pub use pg_lookup as lookup;
+pub use pg_lookup::ROOT;

@@ -1,10 +1,9 @@
 -- Walks: they give an edge more to replicas that have few.
 use Rattle.std.specs.Prelude.{ℕ, Bool, ◌==◌, ◌&&◌, ◌||◌, ◌-◌, ◌/◌, ◌%◌, not, nat_lt, if◌then◌else◌, List, length, Option, None, Some, slice_get}
 use Rattle.std.specs.List.{filter}
-use Rattle.std.specs.Map.{keys_of}
 use Rattle.pg_base.specs.declared.id.FileId.{FileId}
 use Rattle.pg_edges.specs.declared.edge.Edge.{Edge}
-use Rattle.pg_pieces.specs.pg_house.Work.{is_root}
+use Rattle.pg_walkers.specs.Walkers.{sends_walks, walkers_of}
 use Rattle.pg_pieces.specs.pg_msg.declared.message.Ends.{Ends}
 use Rattle.pg_pieces.specs.pg_msg.declared.message.Message.TheVariants as message
 use Rattle.pg_pieces.specs.pg_msg.declared.summary.Greeting.TheVariants as greeting
@@ -12,7 +11,8 @@ use Rattle.pg_pieces.specs.pg_msg.declared.work.Work.{Work}
 use Rattle.pg_pieces.specs.pg_msg.Work.{with_tail}
 use Rattle.pg_pieces.specs.pg_store.declared.store.Store.{Store}
 use Rattle.pg_pieces.specs.pg_store.Births.{birth_of}
-use Rattle.pg_pieces.specs.pg_store.Store.{is_full, replica_of}
+use Rattle.pg_pieces.specs.pg_store.Seen.{server_of}
+use Rattle.pg_pieces.specs.pg_store.Store.{replica_of}
 use Rattle.pg_pieces.specs.declared.accepting.EdgeUse.TheVariants as manner
 use Rattle.pg_pieces.specs.Accepting.{accept, ends_to, is_accepted, link_peer}
 use Rattle.pg_pieces.specs.Done.{Done, idle}
@@ -37,17 +37,17 @@ walk_along store file origin birth hops word work (Some edge) = with_tail work
 
 -- a full replica, not of the root, that has one edge or two
 abbrev pub has_few_edges : Store → FileId → Bool
-has_few_edges store file = not (is_root file) && (is_full store file
-    && (nat_lt 0 (length (edges_of store file)) && nat_lt (length (edges_of store file)) 3))
+has_few_edges store = sends_walks store.names store.replicas
 
+-- all such, by id
 abbrev pub with_few_edges : Store → List FileId
-with_few_edges store = filter (has_few_edges store) (keys_of store.names.held)
+with_few_edges store = walkers_of store.names store.replicas
 
 -- from a replica, by a random word: to one of its peers, and the rest of the word is the walk's
 abbrev pub walk_from : Store → ℕ → Work → Option FileId → Work
 walk_from store word work None = work
 walk_from store word work (Some file) =
-    walk_along store file store.names.server (birth_of store file) most_hops
+    walk_along store file (server_of store) (birth_of store file) most_hops
     (word / length (edges_of store file)) work
     (slice_get (edges_of store file) (word % length (edges_of store file)))
 
@@ -99,7 +99,7 @@ walked store ends origin birth hops word edges work =
 abbrev pub walk : Store → Ends → ℕ → ℕ → ℕ → ℕ → Work → Done
 walk store ends origin birth hops word work =
     if is_accepted store work.from manner.Needs ends
-    then (if origin == store.names.server then idle store work
+    then (if origin == server_of store then idle store work
     else walked store ends origin birth hops word
     (onward store ends.file work.from origin) work)
     else accept store ends manner.Needs work

@@ -30,6 +30,9 @@ pub use leaving::{bye, bye_ok, leave, leave_ok, may_still_leave};
 pub use seeking::{here, seek};
 pub use walks::{walk, walk_of_tick};
 
-// What the floors above name through this one.
-pub use pg_pieces as pieces;
+// What the crates above name through this one.
 pub use pg_pieces::{house, intent, msg, names, store};
+
+pub mod pieces {
+    pub use pg_pieces::{begin_intent, ends_to, is_gold, send};
+}

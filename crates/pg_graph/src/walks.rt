@@ -2,21 +2,18 @@
 
 ghost use Rattle.std.specs.Prelude.{◌≡◌, ◌<◌, IfOk, OnOk, Some, count_by, filter, length, slice_get};
 ghost use Rattle.std.specs.Option.{option_copied};
-ghost use Rattle.pg_graph.specs.Walks.{edges_of, has_few_edges, is_onward, meet_origin, onward, walk, walk_along, walk_from, walk_of, walk_of_tick, walk_on, walked, with_few_edges};
+ghost use Rattle.pg_graph.specs.Walks.{edges_of, is_onward, meet_origin, onward, walk, walk_along, walk_from, walk_of, walk_of_tick, walk_on, walked, with_few_edges};
 
 use pg_base::{FileId, Items, NodeId};
 use pg_edges::Edge;
-use pg_pieces::house::is_root;
 use pg_pieces::msg::{Ends, Greeting, Message, Work};
 use pg_pieces::store::Store;
 use pg_pieces::{EdgeUse, accept, ends_to, is_accepted, link_peer, post, send};
+use pg_walkers::sends_walks;
 use std::alloc::AllocError;
 
 /// A walk has so many steps.
 const MOST_HOPS: u8 = 3;
-
-/// A replica with fewer edges than this, and some, sends walks.
-const FEW_EDGES: usize = 3;
 
 /// A walk: the server of the replica from which it comes, and that replica's birth, how many steps
 /// are left, and a random word for them.
@@ -51,15 +48,7 @@ fn walk_along(
     Ok(())
 }
 
-/// Whether this is a full replica, not of the root, that has one edge or two.
-fn has_few_edges(store: &Store, file: &FileId) -> bool
-    ensures { result ≡ has_few_edges store.now file.now }
-{
-    let count = store.edge_count(file);
-    !is_root(file) && store.names.is_full(file) && 0 < count && count < FEW_EDGES
-}
-
-/// All such, by id. It goes over all that is held.
+/// All that send walks, by id. It goes over all that is held.
 fn with_few_edges(store: &Store) -> Result<Items<FileId>, AllocError>
     ensures { IfOk result (λ files. files ≡ with_few_edges store.now) }
 {
@@ -69,7 +58,7 @@ fn with_few_edges(store: &Store) -> Result<Items<FileId>, AllocError>
             .as_map()
             .keys()
             .copied()
-            .filter(|file| has_few_edges(store, file))
+            .filter(|file| sends_walks(&store.names, &store.replicas, file))
             .collect(store.allocator())?,
     ))
 }

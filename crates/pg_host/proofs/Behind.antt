@@ -4,9 +4,9 @@ use Rattle.std.proofs.Math.Nat.{mod-add-div, add-mul-mod_self_left}
 use Rattle.std.proofs.lemmas.Bool.Decides.{nat_tests}
 use Rattle.std.proofs.lemmas.List.{length-map, take-map, take_all}
 use Rattle.std.specs.Option.{ForSome}
-use Rattle.law_lengths.specs.Laws.{store_behind}
-use Rattle.law_lengths.specs.pg_server.Local.{effect_of}
-use Rattle.law_lengths.specs.pg_server.declared.input.Input.{Input}
+use Rattle.pg_node_input.specs.law_lengths.Laws.{store_behind}
+use Rattle.pg_node_input.specs.law_lengths.pg_server.Local.{effect_of}
+use Rattle.pg_node_input.specs.law_lengths.pg_server.declared.input.Input.{Input}
 use Rattle.pg_checkpoint.specs.Loads.{LoadsTo}
 use Rattle.pg_checkpoint.specs.Saves.{AreSettled, KeepsRest, Loads, SlotsLeave}
 use Rattle.pg_checkpoint.specs.Slots.{Slot}

@@ -29,8 +29,8 @@ use Rattle.pg_state.specs.Fits as state
 use Rattle.pg_state.specs.Fits.{FitsState}
 use Rattle.pg_store.specs.declared.store.Store.{Store}
 use Rattle.pg_store.specs.declared.wishes.Wish.{Wish}
-use Rattle.law_lengths.specs.law_spelled.Stores as held
-use Rattle.law_lengths.specs.law_spelled.Stores.{FitsStore, MayBeServer}
+use Rattle.pg_node_input.specs.law_lengths.law_spelled.Stores as held
+use Rattle.pg_node_input.specs.law_lengths.law_spelled.Stores.{FitsStore, MayBeServer}
 
 -- ---- lists
 

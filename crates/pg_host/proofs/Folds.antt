@@ -3,12 +3,12 @@ use Rattle.std.proofs.Common.{◌≡◌, ◌⊎◌, inl, inr, ℕ, suc, ◌+◌,
 use Rattle.std.specs.Int.{to_be_bytes}
 use Rattle.std.proofs.lemmas.List.{drop_all, drop-append-le, length-map, length-take, take_more, take_all, map-append}
 use Rattle.std.proofs.Math.Seq.{split_at}
-use Rattle.law_lengths.specs.Laws.{store_behind}
+use Rattle.pg_node_input.specs.law_lengths.Laws.{store_behind}
 use Rattle.pg_event.specs.declared.status.Status.{Status}
 use Rattle.pg_event.specs.declared.status.Status.TheVariants as status
 use Rattle.pg_log.specs.Bytes.{blocks, front, start}
-use Rattle.law_lengths.specs.pg_server.Local.{effect_of}
-use Rattle.law_lengths.specs.pg_server.declared.input.Input.{Input}
+use Rattle.pg_node_input.specs.law_lengths.pg_server.Local.{effect_of}
+use Rattle.pg_node_input.specs.law_lengths.pg_server.declared.input.Input.{Input}
 use Rattle.pg_store.specs.declared.store.Store.{Store}
 use Rattle.pg_host.specs.Entries.{entry_for, input_of, start_of}
 use Rattle.pg_host.specs.Logs.{AreInputs, IsBadEntry, IsStart}

@@ -9,14 +9,14 @@ use Rattle.pg_disk.proofs.Moments.{leaves_since_then, leaves_weaker}
 use Rattle.pg_event.specs.declared.status.Status.{Status}
 use Rattle.pg_event.specs.declared.status.Status.TheVariants as status
 use Rattle.pg_io.specs.Causes.{Rose}
-use Rattle.law_lengths.specs.Laws.{store_behind}
-use Rattle.law_lengths.specs.law_spelled.Stores.{FitsStore}
+use Rattle.pg_node_input.specs.law_lengths.Laws.{store_behind}
+use Rattle.pg_node_input.specs.law_lengths.law_spelled.Stores.{FitsStore}
 use Rattle.pg_log.specs.Bytes.{IsBadAt, OpensTo}
 use Rattle.pg_log.specs.Log.{Stands, OpensWithOrWithout}
 use Rattle.pg_log.proofs.Unique.{opens_once}
-use Rattle.law_lengths.specs.pg_server.Local.{effect_of}
-use Rattle.law_lengths.specs.pg_server.declared.input.Input.{Input}
-use Rattle.law_lengths.specs.pg_server.declared.input.Input.TheVariants.{Restart}
+use Rattle.pg_node_input.specs.law_lengths.pg_server.Local.{effect_of}
+use Rattle.pg_node_input.specs.law_lengths.pg_server.declared.input.Input.{Input}
+use Rattle.pg_node_input.specs.law_lengths.pg_server.declared.input.Input.TheVariants.{Restart}
 use Rattle.pg_saving.specs.Usable.{IsUsable, usable}
 use Rattle.pg_saving.specs.declared.loading.Checkpoint.{Checkpoint}
 use Rattle.pg_state.specs.Fits.{FitsState}

@@ -2,13 +2,13 @@
 use Rattle.std.proofs.Common.{◌≡◌, ◌≤◌, ◌∙◌, ◌++◌, ℕ, map, Option, Some, None, Result, Ok, Err, IfOk, IfSome, Contains, refl, sym, ap, subst}
 use Rattle.pg_call.specs.declared.reply.Reply.{Reply}
 use Rattle.pg_msg.specs.declared.message.Sent.{Sent}
-use Rattle.law_lengths.specs.pg_server.declared.input.Input.{Input}
-use Rattle.law_lengths.specs.pg_server.declared.input.Out.{Out}
-use Rattle.law_lengths.specs.pg_server.Local.{Effect, effect, effect_of}
+use Rattle.pg_node_input.specs.law_lengths.pg_server.declared.input.Input.{Input}
+use Rattle.pg_node_input.specs.law_lengths.pg_server.declared.input.Out.{Out}
+use Rattle.pg_node_input.specs.law_lengths.pg_server.Local.{Effect, effect, effect_of}
 use Rattle.pg_store.specs.declared.store.Store.{Store}
-use Rattle.law_lengths.specs.law_spelled.Stores.{FitsStore}
-use Rattle.law_lengths.specs.Laws.{FitsOn}
-use Rattle.law_lengths.specs.Packets.{HasReplyWidths, IsSentWell, IsToldWell}
+use Rattle.pg_node_input.specs.law_lengths.law_spelled.Stores.{FitsStore}
+use Rattle.pg_node_input.specs.law_lengths.Laws.{FitsOn}
+use Rattle.pg_node_input.specs.law_lengths.Packets.{HasReplyWidths, IsSentWell, IsToldWell}
 use Rattle.pg_packet_write.specs.Calls.{FitsReply}
 use Rattle.pg_host.specs.declared.asking.Back.{Back}
 use Rattle.pg_host.specs.Sends.{message_packet, packets, reply_packets}

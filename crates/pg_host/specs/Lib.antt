@@ -8,4 +8,4 @@ pub mod Host
 pub mod Starts
 pub mod Turn
 pub mod Savings
-pub use Rattle.law_lengths.specs.pg_server as pg_server
+pub use Rattle.pg_node_input.specs.law_lengths.pg_server as pg_server

@@ -1,7 +1,7 @@
 -- Files that are logs of a server.
 use Rattle.std.specs.Prelude.{ℕ, ◌≡◌, ◌==◌, ◌+◌, ◌-◌, ◌≤◌, ◌⊎◌, List, [], ◌∷◌, ◌++◌, map, length, take, drop, Bool, true, false, Some, None, Ok, Err}
 use Rattle.std.specs.declared.option.Option.{Option}
-use Rattle.law_lengths.specs.Laws.{store_behind}
+use Rattle.pg_node_input.specs.law_lengths.Laws.{store_behind}
 use Rattle.pg_checkpoint.specs.Loads.{LoadsTo}
 use Rattle.pg_checkpoint.specs.Slots.{Slot}
 use Rattle.pg_disk.specs.Disk.{IsSettled}
@@ -11,9 +11,9 @@ use Rattle.pg_disk.specs.Synced.{KeepsOthers}
 use Rattle.pg_log.specs.Bytes.{OpensTo, IsBadAt, front}
 use Rattle.pg_saving.specs.Usable.{usable}
 use Rattle.pg_saving.specs.declared.loading.Checkpoint.{Checkpoint}
-use Rattle.law_lengths.specs.pg_server.declared.input.Input.{Input}
-use Rattle.law_lengths.specs.pg_server.declared.input.Input.TheVariants.{Restart}
-use Rattle.law_lengths.specs.pg_server.Local.{effect_of}
+use Rattle.pg_node_input.specs.law_lengths.pg_server.declared.input.Input.{Input}
+use Rattle.pg_node_input.specs.law_lengths.pg_server.declared.input.Input.TheVariants.{Restart}
+use Rattle.pg_node_input.specs.law_lengths.pg_server.Local.{effect_of}
 use Rattle.pg_store.specs.Store.{new_store}
 use Rattle.pg_store.specs.declared.store.Store.{Store}
 use Rattle.pg_host.specs.declared.asking.Asked.{Asked}

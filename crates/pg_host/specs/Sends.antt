@@ -7,8 +7,8 @@ use Rattle.pg_net.specs.Net.{Datagram, Told}
 use Rattle.pg_packet_write.specs.Datagrams.{packet_bytes}
 use Rattle.pg_packet_write.specs.DatagramValue.{DatagramValue}
 use Rattle.pg_packet_write.specs.declared.datagram.Content.TheVariants as content
-use Rattle.law_lengths.specs.pg_server.Local.{Effect, effect_of}
-use Rattle.pg_store.specs.Servers.{view_of}
+use Rattle.pg_node_input.specs.law_lengths.pg_server.Local.{Effect, effect_of}
+use Rattle.pg_store.specs.Seen.{server_of, view_of}
 use Rattle.pg_store.specs.declared.store.Store.{Store}
 use Rattle.pg_host.specs.declared.asking.Asked.{Asked}
 use Rattle.pg_host.specs.declared.asking.Back.{Back}
@@ -24,7 +24,7 @@ packet_to port d = record { port = port; bytes = packet_bytes d }
 -- behind the input.
 abbrev pub reply_value : Store → ℕ → Reply → DatagramValue
 reply_value s number reply =
-    record { from = s.names.server; view = view_of s; content = content.Reply number reply }
+    record { from = server_of s; view = view_of s; content = content.Reply number reply }
 
 abbrev pub message_value : Sent → DatagramValue
 message_value sent = record {

@@ -1,7 +1,7 @@
 -- How a server begins over its log.
 use Rattle.std.specs.Prelude.{ℕ, ◌≡◌, ◌+◌, ◌-◌, ◌<◌, ◌≤◌, ◌⊎◌, List, [], ◌∷◌, ◌++◌, length, take, drop, Result, Ok, Err, None, Some}
 use Rattle.std.specs.declared.option.Option.{Option}
-use Rattle.law_lengths.specs.Laws.{store_behind}
+use Rattle.pg_node_input.specs.law_lengths.Laws.{store_behind}
 use Rattle.pg_checkpoint.specs.Saves.{Loads}
 use Rattle.pg_checkpoint.specs.Slots.{Slot}
 use Rattle.pg_disk.specs.Disk.{IsSettled}
@@ -12,9 +12,9 @@ use Rattle.pg_event.specs.declared.status.Status.TheVariants as status
 use Rattle.pg_io.specs.Causes.{Rose}
 use Rattle.pg_log.specs.Bytes.{OpensTo, blocks}
 use Rattle.pg_log.specs.Log.{OpensWithOrWithout, Stands}
-use Rattle.law_lengths.specs.pg_server.Local.{effect_of}
-use Rattle.law_lengths.specs.pg_server.declared.input.Input.{Input}
-use Rattle.law_lengths.specs.pg_server.declared.input.Input.TheVariants.{Restart}
+use Rattle.pg_node_input.specs.law_lengths.pg_server.Local.{effect_of}
+use Rattle.pg_node_input.specs.law_lengths.pg_server.declared.input.Input.{Input}
+use Rattle.pg_node_input.specs.law_lengths.pg_server.declared.input.Input.TheVariants.{Restart}
 use Rattle.pg_saving.specs.Usable.{usable}
 use Rattle.pg_saving.specs.declared.loading.Checkpoint.{Checkpoint}
 use Rattle.pg_store.specs.Store.{new_store}

@@ -1,19 +1,19 @@
 //! What a packet asks of a server.
 
 ghost use Rattle.std.specs.Prelude.{◌≡◌, Ok, IfSome};
-ghost use Rattle.law_lengths.specs.Packets.{IsAskedFew};
-ghost use Rattle.law_lengths.specs.law_spelled.Messages.{FitsInput};
+ghost use Rattle.pg_node_input.specs.law_lengths.Packets.{IsAskedFew};
+ghost use Rattle.pg_node_input.specs.law_lengths.law_spelled.Messages.{FitsInput};
 ghost use Rattle.pg_host.specs.Entries.{IsShort, entry_for, input_of, noted_of};
 ghost use Rattle.pg_host.specs.Inputs.{is_stop, is_stop_call};
 ghost use Rattle.pg_host.specs.Turn.{Asks, HasCome};
 
-use law_lengths::call_fits;
-use law_lengths::server::Input;
-use law_lengths::spelled::message_fits;
 use pg_call::{Call, CallKind};
 use pg_msg::Packet;
 use pg_net::Clock;
 use pg_node_entry::{entries_are_short, entries_read_back};
+use pg_node_input::call_fits;
+use pg_node_input::server::Input;
+use pg_node_input::spelled::message_fits;
 use pg_packet_read::packets_read_back;
 use pg_packet_write::{Content, Datagram, Request};
 

@@ -1,14 +1,14 @@
 //! One input.
 
 ghost use Rattle.std.specs.Prelude.{◌≡◌, ◌≤◌, ◌⊎◌, ◌∷◌, ◌++◌, [], ℕ, List, false, IfOk, IfErr, IfSome, IsSome, OnOk, IsErrOf, Contains};
-ghost use Rattle.law_lengths.specs.Packets.{IsAskedFew, IsSentWell, IsToldWell};
-ghost use Rattle.law_lengths.specs.law_spelled.Messages.{FitsInput};
-ghost use Rattle.law_lengths.specs.law_spelled.Stores.{FitsStore};
+ghost use Rattle.pg_node_input.specs.law_lengths.Packets.{IsAskedFew, IsSentWell, IsToldWell};
+ghost use Rattle.pg_node_input.specs.law_lengths.law_spelled.Messages.{FitsInput};
+ghost use Rattle.pg_node_input.specs.law_lengths.law_spelled.Stores.{FitsStore};
 ghost use Rattle.pg_disk.specs.Moments.{LeavesSince};
 ghost use Rattle.pg_disk.specs.Synced.{KeepsOthers};
 ghost use Rattle.pg_log.specs.Log.{OpensWithOrWithout, Stands};
 ghost use Rattle.pg_msg.specs.declared.message.Sent.{Sent};
-ghost use Rattle.law_lengths.specs.pg_server.Local.{effect_of};
+ghost use Rattle.pg_node_input.specs.law_lengths.pg_server.Local.{effect_of};
 ghost use Rattle.pg_host.specs.Causes.{IsFault};
 ghost use Rattle.pg_host.specs.Entries.{IsShort, entry_for, noted_of};
 ghost use Rattle.pg_host.specs.Sends.{SentFirst, packets, with_all};
@@ -16,13 +16,13 @@ ghost use Rattle.pg_host.specs.Sends.{SentFirst, packets, with_all};
 use crate::asking::Back;
 use crate::keeping::keep;
 use crate::sending::{send_messages, send_reply};
-use law_lengths::sends_packets;
-use law_lengths::server::{Input, Out, Server};
 use pg_base::Bytes;
 use pg_disk::Disk;
 use pg_event::Status;
 use pg_log::Log;
 use pg_net::Net;
+use pg_node_input::sends_packets;
+use pg_node_input::server::{Input, Out, Server};
 use std::alloc::Global;
 
 /// Lets the server take an input. What comes of it can be sent.

@@ -1,11 +1,11 @@
 //! A server that takes the inputs of its log again.
 
 ghost use Rattle.std.specs.Prelude.{◌≡◌, ◌≤◌, ◌<◌, ◌+◌, ◌^◌, ◌∷◌, List, length, false, IfErr, IfOk, IfSome, OnOk};
-ghost use Rattle.law_lengths.specs.Packets.{IsAskedFew};
-ghost use Rattle.law_lengths.specs.law_spelled.Messages.{FitsInput};
-ghost use Rattle.law_lengths.specs.law_spelled.Stores.{FitsStore};
-ghost use Rattle.law_lengths.specs.pg_server.Local.{effect_of};
-ghost use Rattle.law_lengths.specs.pg_server.declared.input.Input.{Input};
+ghost use Rattle.pg_node_input.specs.law_lengths.Packets.{IsAskedFew};
+ghost use Rattle.pg_node_input.specs.law_lengths.law_spelled.Messages.{FitsInput};
+ghost use Rattle.pg_node_input.specs.law_lengths.law_spelled.Stores.{FitsStore};
+ghost use Rattle.pg_node_input.specs.law_lengths.pg_server.Local.{effect_of};
+ghost use Rattle.pg_node_input.specs.law_lengths.pg_server.declared.input.Input.{Input};
 ghost use Rattle.pg_log.specs.Bytes.{blocks, front};
 ghost use Rattle.pg_saving.specs.Usable.{IsUsable};
 ghost use Rattle.pg_state.specs.Fits.{FitsState};
@@ -15,10 +15,10 @@ ghost use Rattle.pg_host.specs.Logs.{AreInputs};
 ghost use Rattle.pg_host.specs.Starts.{IsFold, IsFolded, IsInput, IsLogFold, IsNoFold, IsOn, IsTakenBehind, IsUnfolded, IsUnread};
 
 use crate::entering::take;
-use law_lengths::server::{Input, Server};
-use law_lengths::spelled::spelled;
 use pg_base::{Bytes, NodeId};
 use pg_event::Status;
+use pg_node_input::server::{Input, Server};
+use pg_node_input::spelled::spelled;
 use pg_node_input::{HEAD, read_input, read_start};
 use pg_saving::Checkpoint;
 use std::alloc::{AllocError, Global};

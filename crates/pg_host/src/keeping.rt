@@ -1,8 +1,8 @@
 //! An input, kept.
 
 ghost use Rattle.std.specs.Prelude.{◌≡◌, ◌≤◌, ◌∷◌, ◌++◌, [], ℕ, List, IsSome, IfOk, OnOk, IfErr};
-ghost use Rattle.law_lengths.specs.Packets.{IsAskedFew};
-ghost use Rattle.law_lengths.specs.law_spelled.Messages.{FitsInput};
+ghost use Rattle.pg_node_input.specs.law_lengths.Packets.{IsAskedFew};
+ghost use Rattle.pg_node_input.specs.law_lengths.law_spelled.Messages.{FitsInput};
 ghost use Rattle.pg_disk.specs.Moments.{LeavesSince};
 ghost use Rattle.pg_disk.specs.Synced.{KeepsOthers};
 ghost use Rattle.pg_log.specs.Log.{OpensWithOrWithout, Stands};
@@ -11,12 +11,12 @@ ghost use Rattle.pg_host.specs.Causes.{IsDiskFault};
 ghost use Rattle.pg_host.specs.Entries.{IsShort, entry_for, noted_of};
 
 use crate::sending::clear;
-use law_lengths::server::Input;
 use pg_base::Bytes;
 use pg_disk::Disk;
 use pg_event::Status;
 use pg_log::{Log, LogError};
 use pg_node_entry::{NodeEntry, write_entry};
+use pg_node_input::server::Input;
 use pg_node_input::{input as input_of, noted};
 use std::alloc::Global;
 

@@ -2,7 +2,7 @@
 
 ghost use Rattle.std.specs.Prelude.{◌≡◌, ◌==◌, ◌≤◌, ◌<◌, ◌+◌, ◌-◌, ◌%◌, ◌^◌, min, false, IfErr, IfOk, IsSome, OnErr, OnOk, length};
 ghost use Rattle.std.specs.declared.option.Option.{Option};
-ghost use Rattle.law_lengths.specs.law_spelled.Stores.{FitsStore};
+ghost use Rattle.pg_node_input.specs.law_lengths.law_spelled.Stores.{FitsStore};
 ghost use Rattle.pg_checkpoint.specs.Saves.{AreSettled, KeepsRest, Loads, SlotsLeave};
 ghost use Rattle.pg_checkpoint.specs.Slots.{Slot};
 ghost use Rattle.pg_saving.specs.Saves.{LeavesSaved, Saves};
@@ -12,13 +12,13 @@ ghost use Rattle.pg_host.specs.Savings.{EndsSafely, GoesOn, is_due};
 ghost use Rattle.pg_host.specs.Slots.{SavesIf};
 
 use crate::turning::turn;
-use law_lengths::server::Server;
 use pg_base::{Bytes, NodeId};
 use pg_checkpoint::SnapError;
 use pg_disk::Disk;
 use pg_event::Status;
 use pg_log::Log;
 use pg_net::{Clock, Net};
+use pg_node_input::server::Server;
 use pg_saving::save_state;
 use pg_store::Store;
 use std::alloc::Global;

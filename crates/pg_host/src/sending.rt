@@ -1,19 +1,19 @@
 //! What goes out.
 
 ghost use Rattle.std.specs.Prelude.{◌≡◌, ◌≤◌, ◌∷◌, [], ℕ, map, OnOk, OnErr, IfErr, IfSome, Contains};
-ghost use Rattle.law_lengths.specs.Packets.{IsSentWell, IsToldWell};
+ghost use Rattle.pg_node_input.specs.law_lengths.Packets.{IsSentWell, IsToldWell};
 ghost use Rattle.pg_msg.specs.declared.message.Sent.{Sent};
 ghost use Rattle.pg_host.specs.Causes.{IsNetFault};
 ghost use Rattle.pg_host.specs.Sends.{SentFirst, message_packet, packet_to, reply_packets, with_all};
 
 use crate::asking::Back;
-use law_lengths::reply_fits;
-use law_lengths::spelled::message_fits;
 use pg_base::{Bytes, Items};
 use pg_call::Reply;
 use pg_event::Status;
 use pg_msg::{Packet, Sent};
 use pg_net::Net;
+use pg_node_input::reply_fits;
+use pg_node_input::spelled::message_fits;
 use pg_packet_write::{Datagram, write_packet};
 use pg_store::Store;
 use std::alloc::Global;

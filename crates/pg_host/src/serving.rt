@@ -1,7 +1,7 @@
 //! A server that runs.
 
 ghost use Rattle.std.specs.Prelude.{◌≡◌, ◌≤◌, ◌⊎◌, length, false, IfOk, IsSome};
-ghost use Rattle.law_lengths.specs.law_spelled.Stores.{FitsStore};
+ghost use Rattle.pg_node_input.specs.law_lengths.law_spelled.Stores.{FitsStore};
 ghost use Rattle.pg_io.specs.Causes.{Rose};
 ghost use Rattle.pg_disk.specs.Told.{given};
 ghost use Rattle.pg_host.specs.Causes.{IsEnd, IsFault, IsWhole};
@@ -10,13 +10,13 @@ ghost use Rattle.pg_host.specs.Savings.{RunsOn};
 
 use crate::saving::{Count, turn_on};
 use crate::starting::start;
-use law_lengths::server::Server;
 use pg_base::{Bytes, NodeId};
 use pg_disk::Disk;
 use pg_event::Status;
 use pg_log::Log;
 use pg_net::{Clock, Net};
 use pg_node_entry::entries_read_back;
+use pg_node_input::server::Server;
 use std::alloc::{AllocError, Global};
 
 /// Room for a packet, and for one byte more, by which a longer one is seen.

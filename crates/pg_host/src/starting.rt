@@ -2,7 +2,7 @@
 
 ghost use Rattle.std.specs.Prelude.{◌≡◌, ◌≤◌, false, IfErr, IfOk, IfSome, IsSome};
 ghost use Rattle.std.specs.declared.option.Option.{Option};
-ghost use Rattle.law_lengths.specs.law_spelled.Stores.{FitsStore};
+ghost use Rattle.pg_node_input.specs.law_lengths.law_spelled.Stores.{FitsStore};
 ghost use Rattle.pg_checkpoint.specs.Saves.{Loads};
 ghost use Rattle.pg_checkpoint.specs.Slots.{Slot};
 ghost use Rattle.pg_disk.specs.Synced.{KeepsOthers};
@@ -16,13 +16,13 @@ ghost use Rattle.pg_host.specs.Starts.{IsUnstarted, LeavesAtStart, Started};
 
 use crate::folding::folded;
 use crate::keeping::append;
-use law_lengths::server::Server;
 use pg_base::{Bytes, NodeId};
 use pg_checkpoint::SnapError;
 use pg_disk::Disk;
 use pg_event::Status;
 use pg_log::{Log, LogError};
 use pg_node_entry::{NodeEntry, entries_are_short};
+use pg_node_input::server::Server;
 use pg_saving::{Checkpoint, load_state};
 use std::alloc::Global;
 

@@ -1,7 +1,7 @@
 //! One take.
 
 ghost use Rattle.std.specs.Prelude.{◌≡◌, ◌≤◌, ◌∷◌, [], ℕ, length, false, Some, Ok, IfOk, IfSome, IsSome, OnOk, OnErr, IfErr, IsErr, MatchOption};
-ghost use Rattle.law_lengths.specs.law_spelled.Stores.{FitsStore};
+ghost use Rattle.pg_node_input.specs.law_lengths.law_spelled.Stores.{FitsStore};
 ghost use Rattle.pg_disk.specs.Synced.{KeepsOthers};
 ghost use Rattle.pg_packet_read.specs.Whole.{packet_of};
 ghost use Rattle.pg_host.specs.Causes.{IsFault};
@@ -11,13 +11,13 @@ ghost use Rattle.pg_host.specs.Turn.{Halts, HasCome, Works};
 
 use crate::asking::{Asked, ask, is_stop};
 use crate::entering::enter;
-use law_lengths::server::Server;
 use pg_base::Bytes;
 use pg_disk::Disk;
 use pg_event::Status;
 use pg_log::Log;
 use pg_net::{Clock, Net, Taken};
 use pg_node_entry::{entries_are_short, entries_read_back};
+use pg_node_input::server::Server;
 use pg_packet_fields::PacketError;
 use pg_packet_read::{packets_read_back, read_packet};
 use pg_packet_write::Datagram;

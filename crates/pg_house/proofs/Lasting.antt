@@ -64,13 +64,13 @@ break_up moment ds st t first i h k =
 pub within : (a c i n : ℕ) → a ≤ max (2 ^ 62) c + (i + 1) → i < n → a ≤ max (2 ^ 62) c + n
 within a c i n h lt = grind arith
 
-fits : (a b n : ℕ) → a ≡ b → b ≤ 2 ^ 62 + 2 ^ 40 → n ≤ 2 ^ 40 → max (2 ^ 62) a + n < 2 ^ 63
+fits : (a b n : ℕ) → a ≡ b → b ≤ 2 ^ 62 + 2 ^ 40 → n < 2 ^ 60 → max (2 ^ 62) a + n < 2 ^ 63
 fits a b n h k few = grind arith
 
 -- after passing there is room for so many stamps
-pub room : (st t : State) (ds fs : List FileId) (n : ℕ) → t ≡ pass_all st ds fs → st.names.last ≤ 2 ^ 62 + 2 ^ 40 → n ≤ 2 ^ 40 → max (2 ^ 62) t.names.last + n < 2 ^ 63
+pub room : (st t : State) (ds fs : List FileId) (n : ℕ) → t ≡ pass_all st ds fs → st.names.last ≤ 2 ^ 62 + 2 ^ 40 → n < 2 ^ 60 → max (2 ^ 62) t.names.last + n < 2 ^ 63
 room st t ds fs n h first few = let same : t.names.last ≡ st.names.last = ap (λ (u : State). u.names.last) h ∙ pass_all_last st ds fs in fits t.names.last st.names.last n same first few
 
 -- and after these for as many more
-pub more_room : (a b n : ℕ) → a ≤ max (2 ^ 62) b + n → b ≤ 2 ^ 62 + 2 ^ 40 → n ≤ 2 ^ 40 → max (2 ^ 62) a + n < 2 ^ 63
+pub more_room : (a b n : ℕ) → a ≤ max (2 ^ 62) b + n → b ≤ 2 ^ 62 + 2 ^ 40 → n < 2 ^ 60 → max (2 ^ 62) a + n < 2 ^ 63
 more_room a b n h k few = grind arith

@@ -11,11 +11,10 @@ ghost use Rattle.pg_register.specs.Place.{root};
 
 use crate::changes::dirty_things;
 use crate::placing::place;
-use crate::returning::is_root;
 use pg_base::{FileId, Kind, Stamp};
 use pg_index::Ids;
 use pg_msg::Work;
-use pg_names::{Names, is_dir};
+use pg_names::{Names, is_dir, is_root};
 use pg_register::tilde_name;
 use std::alloc::AllocError;
 

@@ -6,9 +6,8 @@ ghost use Rattle.pg_names.specs.Names.{cell_at, directories};
 ghost use Rattle.pg_house.specs.Holding.{held_back, is_dir_back, later, latest, waits};
 
 use crate::changes::dirty_things;
-use crate::returning::is_root;
 use pg_base::FileId;
-use pg_names::{Names, is_dir};
+use pg_names::{Names, is_dir, is_root};
 use pg_register::Place;
 
 /// The later of a place and the one in the directory's cell for the thing, if it has one.

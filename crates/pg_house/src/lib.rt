@@ -40,7 +40,14 @@ pub use laws::{
     no_dead_directory_lists, none_applies, own_parent, passed_things_stay,
     replaced_places_are_noted, stays_sound, the_same_is_held,
 };
-pub use pg_msg as msg;
-pub use returning::is_root;
+pub use pg_names::is_root;
 pub use rules::house;
 pub use touching::note_left;
+
+/// What the crates above name of messages through this one.
+pub mod msg {
+    pub use pg_msg::{
+        Ask, Delta, Ends, Granted, Greeting, Linked, MadeVersion, Message, Packet, Piece, Sent,
+        Slot, Touched, Update, Wanted, Work, key_of,
+    };
+}

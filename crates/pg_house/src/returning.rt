@@ -4,27 +4,15 @@ ghost use Rattle.std.specs.Prelude.{◌≡◌, ◌<◌, ◌≤◌, ◌+◌, ◌^
 ghost use Rattle.pg_names.specs.Names.{directories};
 ghost use Rattle.pg_house.specs.Work.{state_of};
 ghost use Rattle.pg_house.specs.Placing.{place_at, repeated};
-ghost use Rattle.pg_house.specs.Returning.{first_returning, is_dead, is_returning, is_root, return_first, returned};
+ghost use Rattle.pg_house.specs.Returning.{first_returning, is_dead, is_returning, return_first, returned};
 
 use crate::changes::dirty_things;
 use crate::placing::{place, place_at};
-use pg_base::{FileId, Kind, Stamp};
+use pg_base::{FileId, Stamp};
 use pg_msg::Work;
-use pg_names::{Names, is_dir};
+use pg_names::{Names, is_dir, is_root};
 use pg_register::Place;
 use std::alloc::AllocError;
-
-/// Whether this is the root, the directory above all others.
-pub fn is_root(file: &FileId) -> bool
-    ensures { result ≡ is_root file.now }
-{
-    let root = FileId {
-        kind: Kind::Dir,
-        server: 0,
-        number: 0,
-    };
-    file.compare(&root).is_eq()
-}
 
 /// Whether this is a dead place of a directory, other than the blank one.
 fn is_dead(dir: &FileId, place: &Place) -> bool

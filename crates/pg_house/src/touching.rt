@@ -8,11 +8,10 @@ ghost use Rattle.pg_house.specs.Work.{note_left, place_touched, touched};
 ghost use Rattle.pg_house.specs.Passing.{flags_touched, is_other_flag, own_touched};
 ghost use Rattle.pg_names.specs.Same.{is_same_place};
 
-use crate::returning::is_root;
 use pg_base::FileId;
 use pg_edges::Key;
 use pg_msg::{Slot, Touched, Work};
-use pg_names::{Attributes, is_same_flag, is_same_place};
+use pg_names::{Attributes, is_root, is_same_flag, is_same_place};
 use pg_register::{Flag, GoldFlags, Place};
 use std::alloc::AllocError;
 

@@ -12,6 +12,7 @@ use Rattle.pg_graph.specs.pg_house.Facts.{is_among}
 use Rattle.pg_graph.specs.pg_store.declared.store.Store.{Store}
 use Rattle.pg_graph.specs.pg_store.Births.{birth_of}
 use Rattle.pg_graph.specs.pg_store.Seekers.{is_apart, matches, may_seek, seeks_as}
+use Rattle.pg_graph.specs.pg_store.Seen.{removed_of, server_of}
 use Rattle.pg_graph.specs.pg_store.Store.{replica_of}
 use Rattle.pg_graph.specs.Walks.{edges_of}
 use Rattle.pg_graph.proofs.pg_pieces.pg_house.Among.{among_keys, among_where, one_of_among, same_where}
@@ -20,10 +21,10 @@ use Rattle.pg_intentions.specs.Seeks.{is_seeking, to_seek}
 module _ (s : Store) where
   -- so of what is known of a thing
   seeks_by : (q : FileId) (o : Option InodeValue)
-      → (is_some o && (if is_raised (or_blank q (own_of o)).flags s.names.server (birth_of s q)
-      then list_any (is_apart s.names.server s.names.removed (edges_of s q)) (or_blank q (own_of o)).flags
-      else not (list_any (matches s.names.removed (or_blank q (own_of o)).flags) (edges_of s q))))
-      ≡ seeks_as s.names.server s.names.removed (own_of o) (replica_of s q)
+      → (is_some o && (if is_raised (or_blank q (own_of o)).flags (server_of s) (birth_of s q)
+      then list_any (is_apart (server_of s) (removed_of s) (edges_of s q)) (or_blank q (own_of o)).flags
+      else not (list_any (matches (removed_of s) (or_blank q (own_of o)).flags) (edges_of s q))))
+      ≡ seeks_as (server_of s) (removed_of s) (own_of o) (replica_of s q)
   seeks_by q None = refl
   seeks_by q (Some x) = refl
 

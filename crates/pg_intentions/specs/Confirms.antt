@@ -11,6 +11,7 @@ use Rattle.pg_graph.specs.pg_msg.declared.work.Slot.{Slot}
 use Rattle.pg_graph.specs.pg_msg.declared.work.Work.{Work}
 use Rattle.pg_graph.specs.pg_names.Names.{NamesValue, cell_at, is_held}
 use Rattle.pg_graph.specs.pg_store.declared.store.Store.{Store}
+use Rattle.pg_graph.specs.pg_store.Seen.{removed_of, server_of}
 use Rattle.pg_graph.specs.pg_store.Servers.{next_target}
 use Rattle.pg_graph.specs.pg_pieces.Done.{Done, idle}
 use Rattle.pg_intentions.specs.Intending.{begin_intent, each, in_order}
@@ -30,13 +31,13 @@ is_doubtful store dir child = is_doubtful_in store.names dir child
 abbrev pub holder_by : Store → ℕ → Option Entry → ℕ
 holder_by store next None = next
 holder_by store next (Some entry) =
-    unwrap_or (first_other_gold store.names.server store.names.removed entry.flags) next
+    unwrap_or (first_other_gold (server_of store) (removed_of store) entry.flags) next
 
 -- the server that is asked first: the least other live gold of the child, else the next behind this
 -- server
 abbrev pub holder : Store → FileId → FileId → ℕ
 holder store dir child =
-    holder_by store (next_target store store.names.server) (cell_at store.names dir child)
+    holder_by store (next_target store (server_of store)) (cell_at store.names dir child)
 
 abbrev pub confirm_of : Store → Slot → Intent
 confirm_of store slot = intent.Confirm slot.dir slot.child (holder store slot.dir slot.child)

@@ -11,6 +11,7 @@ use Rattle.pg_graph.specs.pg_msg.Work.{with_tail}
 use Rattle.pg_graph.specs.pg_names.declared.attributes.Attributes.{Attributes}
 use Rattle.pg_graph.specs.pg_names.Names.{own_at}
 use Rattle.pg_graph.specs.pg_store.declared.store.Store.{Store}
+use Rattle.pg_graph.specs.pg_store.Seen.{removed_of, server_of}
 use Rattle.pg_graph.specs.pg_store.Store.{is_full}
 use Rattle.pg_graph.specs.pg_pieces.Accepting.{ends_to}
 use Rattle.pg_graph.specs.pg_pieces.Golds.{flags_of, is_gold}
@@ -26,7 +27,7 @@ is_this server (Some other) = other == server
 -- the least live gold that a thing sees is this server's
 abbrev pub is_least_gold : Store → FileId → Bool
 is_least_gold store file =
-    is_this store.names.server (first_gold store.names.removed (flags_of store file))
+    is_this (server_of store) (first_gold (removed_of store) (flags_of store file))
 
 -- full and gold, it sees few live golds, of which this server's is the least
 abbrev pub invites : Store → FileId → Bool
@@ -41,7 +42,7 @@ first_loose removed (Some own) edges = find (λ e. not (matches removed own.flag
 -- the one of a thing to the least peer
 abbrev pub loose_edge : Store → FileId → Option Edge
 loose_edge store file =
-    first_loose store.names.removed (own_at store.names file) (edges_of store file)
+    first_loose (removed_of store) (own_at store.names file) (edges_of store file)
 
 abbrev pub invite_along : Store → FileId → Option Edge → Work → Work
 invite_along store file None work = work

@@ -13,6 +13,7 @@ use Rattle.pg_graph.specs.pg_msg.declared.work.Linked.{Linked}
 use Rattle.pg_graph.specs.pg_msg.declared.work.Work.{Work}
 use Rattle.pg_graph.specs.pg_store.declared.store.Store.{Store}
 use Rattle.pg_graph.specs.pg_store.Beginning.{with_intents}
+use Rattle.pg_graph.specs.pg_store.Seen.{removed_of, server_of}
 pub use Rattle.pg_graph.specs.pg_store.Seekers.{is_apart, matches, seeks}
 use Rattle.pg_graph.specs.pg_store.Servers.{next_target}
 use Rattle.pg_graph.specs.pg_store.Store.{is_held}
@@ -25,12 +26,12 @@ use Rattle.pg_graph.specs.Walks.{edges_of}
 
 abbrev pub has_gold_apart : Store → FileId → Bool
 has_gold_apart store file =
-    list_any (is_apart store.names.server store.names.removed (edges_of store file))
+    list_any (is_apart (server_of store) (removed_of store) (edges_of store file))
     (flags_of store file)
 
 abbrev pub has_gold_edge : Store → FileId → Bool
 has_gold_edge store file =
-    list_any (matches store.names.removed (flags_of store file)) (edges_of store file)
+    list_any (matches (removed_of store) (flags_of store file)) (edges_of store file)
 
 -- a gold replica seeks where it sees a live gold of another server to which it has no edge, a
 -- bronze one where it has no edge to a live gold that it sees
@@ -45,14 +46,14 @@ to_seek store = filter (is_seeking store) (keys_of store.names.held)
 -- ---- a Seek begins
 
 abbrev pub target_or_next : Store → Option Flag → ℕ
-target_or_next store None = next_target store store.names.server
+target_or_next store None = next_target store (server_of store)
 target_or_next store (Some flag) = flag.server
 
 -- the least live other server whose flag is raised, and to which there is no edge, else the next
 -- behind this server
 abbrev pub seek_target : Store → FileId → ℕ
 seek_target store file = target_or_next store
-    (find (is_apart store.names.server store.names.removed (edges_of store file))
+    (find (is_apart (server_of store) (removed_of store) (edges_of store file))
     (flags_of store file))
 
 -- one of these edges is of the thing

@@ -5,6 +5,7 @@ ghost use Rattle.std.specs.List.{find};
 ghost use Rattle.std.specs.Option.{option_copied};
 ghost use Rattle.pg_intentions.specs.Inviting.{invite_all, invite_each, invite_of, invites, is_least_gold, loose_edge};
 ghost use Rattle.pg_intentions.specs.Seeks.{matches};
+ghost use Rattle.pg_graph.specs.pg_store.Seen.{removed_of};
 
 use crate::seeks::matches;
 use pg_base::{FileId, Items};
@@ -42,7 +43,7 @@ fn invites(store: &Store, file: &FileId) -> bool
 /// The first of these edges that matches no raised flag of a live server.
 fn first_loose<'a>(store: &Store, flags: &GoldFlags, edges: &'a [Edge]) -> Option<&'a Edge>
     ensures { option_copied result
-        ≡ find (λ e. not (matches store.now.names.removed flags.now e)) edges.now }
+        ≡ find (λ e. not (matches (removed_of store.now) flags.now e)) edges.now }
 {
     edges.iter().find(|edge| !matches(store, flags, edge))
 }

@@ -44,6 +44,14 @@ pub use laws::{intentions_follow_what_is_held, patches_follow_what_was_left, wha
 pub use requests::{ask_all, ask_begun};
 pub use seeks::{begin_seeks, is_seeking, matches, to_seek};
 
-// What the floors above name through this one.
-pub use pg_graph as graph;
-pub use pg_repair as repair;
+// What the crates above name through this one.
+pub mod graph {
+    pub use pg_graph::{bye, bye_ok, here, leave, leave_ok, seek, walk, walk_of_tick};
+}
+
+pub mod repair {
+    pub use pg_repair::{
+        confirm, fetch, fill, full, gone, grant, invite, no_grant, none_here, place_is, tell,
+        tell_ok,
+    };
+}

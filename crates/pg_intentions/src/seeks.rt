@@ -5,6 +5,7 @@ ghost use Rattle.std.specs.List.{find, list_any};
 ghost use Rattle.std.specs.Option.{option_copied};
 ghost use Rattle.pg_register.specs.Flag.{is_live_other};
 ghost use Rattle.pg_intentions.specs.Seeks.{aim_seek, begin_seek, begin_seeks, has_seek, is_apart, is_seeking, matches, seek_again, seek_target, seeks, to_seek, was_linked};
+ghost use Rattle.pg_graph.specs.pg_store.Seen.{removed_of, server_of};
 
 use pg_base::{FileId, Items, NodeId};
 use pg_edges::{Edge, Edges};
@@ -18,7 +19,7 @@ use std::alloc::AllocError;
 /// Whether this is the raised flag of another live server.
 fn is_live_other(store: &Store, flag: &Flag) -> bool
     ensures { result
-        ≡ is_live_other store.now.names.server store.now.names.removed flag.now }
+        ≡ is_live_other (server_of store.now) (removed_of store.now) flag.now }
 {
     flag.raised && !store.names.is_removed(flag.server) && flag.server != store.server()
 }
@@ -26,7 +27,7 @@ fn is_live_other(store: &Store, flag: &Flag) -> bool
 /// Whether this is the flag of another live gold replica, to which none of these edges leads.
 fn is_apart(store: &Store, edges: &Edges, flag: &Flag) -> bool
     ensures { result
-        ≡ is_apart store.now.names.server store.now.names.removed edges.now flag.now }
+        ≡ is_apart (server_of store.now) (removed_of store.now) edges.now flag.now }
 {
     is_live_other(store, flag) && !edges.is_listed(flag.server, flag.birth)
 }
@@ -34,7 +35,7 @@ fn is_apart(store: &Store, edges: &Edges, flag: &Flag) -> bool
 /// Whether there is one.
 fn has_apart(store: &Store, edges: &Edges, flags: &[Flag]) -> bool
     ensures { result
-        ≡ list_any (is_apart store.now.names.server store.now.names.removed edges.now) flags.now }
+        ≡ list_any (is_apart (server_of store.now) (removed_of store.now) edges.now) flags.now }
 {
     flags.iter().any(|flag| is_apart(store, edges, flag))
 }
@@ -42,7 +43,7 @@ fn has_apart(store: &Store, edges: &Edges, flags: &[Flag]) -> bool
 /// The one of the least server.
 fn first_apart<'a>(store: &Store, edges: &Edges, flags: &'a [Flag]) -> Option<&'a Flag>
     ensures { option_copied result
-        ≡ find (is_apart store.now.names.server store.now.names.removed edges.now) flags.now }
+        ≡ find (is_apart (server_of store.now) (removed_of store.now) edges.now) flags.now }
 {
     flags.iter().find(|flag| is_apart(store, edges, flag))
 }
@@ -50,14 +51,14 @@ fn first_apart<'a>(store: &Store, edges: &Edges, flags: &'a [Flag]) -> Option<&'
 /// Whether the flag of the edge's peer is raised with the birth that the edge names, and the peer
 /// is not removed.
 pub fn matches(store: &Store, flags: &GoldFlags, edge: &Edge) -> bool
-    ensures { result ≡ matches store.now.names.removed flags.now edge.now }
+    ensures { result ≡ matches (removed_of store.now) flags.now edge.now }
 {
     flags.is_raised(edge.peer, edge.birth) && !store.names.is_removed(edge.peer)
 }
 
 /// Whether one of these edges is so.
 fn has_match(store: &Store, flags: &GoldFlags, edges: &[Edge]) -> bool
-    ensures { result ≡ list_any (matches store.now.names.removed flags.now) edges.now }
+    ensures { result ≡ list_any (matches (removed_of store.now) flags.now) edges.now }
 {
     edges.iter().any(|edge| matches(store, flags, edge))
 }
@@ -67,7 +68,7 @@ fn has_match(store: &Store, flags: &GoldFlags, edges: &[Edge]) -> bool
 /// gold that it sees.
 fn seeks(store: &Store, flags: &GoldFlags, birth: u64, edges: &Edges) -> bool
     ensures { result
-        ≡ seeks store.now.names.server store.now.names.removed flags.now birth edges.now }
+        ≡ seeks (server_of store.now) (removed_of store.now) flags.now birth edges.now }
 {
     if flags.is_raised(store.server(), birth) {
         return has_apart(store, edges, flags.as_slice());

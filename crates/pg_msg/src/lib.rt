@@ -11,8 +11,7 @@
 //! What is large in a message is shared, so that a message of any kind takes no more room than an
 //! acknowledgement. A cell has the whole version, with vector and body, a harbinger its head; what
 //! a journal tells is how it was made, its bases and its ranges: a receiver may lack the bases, and
-//! a history needs no more. `Work` stands here and not below the house rules, since it has what is
-//! sent.
+//! a history needs no more.
 //!
 //! Definitions: `specs/Ends`, `Sent`, `Work`, `Numbers`, and `Text`, `UpdateText`, `VersionWords`
 //! for what is printed. docs/RULES.md: "Cells, answers and ticks" and what follows it, by kind;

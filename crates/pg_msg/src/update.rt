@@ -3,8 +3,7 @@
 ghost use Rattle.std.specs.Prelude.{◌≡◌, ◌↔◌, ◌∷◌, [], List, ℕ, map, codes, IfOk, IfSome, IfNone, IsTrue};
 ghost use Rattle.pg_base.specs.Id.{Fits};
 ghost use Rattle.pg_base.specs.declared.id.FileId.{FileId};
-ghost use Rattle.pg_msg.specs.UpdateText.{flag_words, update_spelling, version_spelling, version_words};
-ghost use Rattle.pg_msg.specs.UpdateText.{IsFlag, IsMadeVersion, IsUpdate};
+ghost use Rattle.pg_msg.specs.UpdateText.{IsFlag, IsMadeVersion, IsUpdate, flag_words, update_spelling, version_spelling, version_words};
 ghost use Rattle.pg_msg.specs.VersionWords.{spelled_version};
 ghost use Rattle.pg_msg.specs.declared.update.MadeVersion.{MadeVersion};
 ghost use Rattle.pg_msg.specs.declared.update.Update.{Update};

@@ -32,7 +32,7 @@ mod spots;
 pub use attributes::Attributes;
 pub use inode::Inode;
 pub use names::Names;
-pub use root::is_dir;
+pub use root::{is_dir, is_root};
 pub use same::{
     is_same_entry, is_same_flag, is_same_flags, is_same_own, is_same_place, is_same_stamp,
 };

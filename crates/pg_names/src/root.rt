@@ -18,8 +18,8 @@ pub(crate) fn root() -> FileId
     }
 }
 
-/// Whether this is the root.
-pub(crate) fn is_root(file: &FileId) -> bool
+/// Whether this is the root, the directory above all others.
+pub fn is_root(file: &FileId) -> bool
     ensures { result ≡ is_root file.now }
 {
     file.compare(&root()).is_eq()

@@ -119,6 +119,23 @@ fn receive(socket: &UdpSocket, waits: &mut bool, buf: &mut [u8]) -> io::Result<T
     wait(socket, waits, buf)
 }
 
+/// Sends a packet. Where the socket does not wait and the system has no room for it, it waits from
+/// then on, and the packet is sent again.
+fn post(socket: &UdpSocket, waits: &mut bool, port: u16, bytes: &[u8]) -> io::Result<()> {
+    let to = (Ipv4Addr::LOCALHOST, port);
+    match socket.send_to(bytes, to) {
+        Err(e) if e.kind() == ErrorKind::WouldBlock => {
+            socket.set_nonblocking(false)?;
+            *waits = true;
+            socket.send_to(bytes, to)?;
+        }
+        sent => {
+            sent?;
+        }
+    }
+    Ok(())
+}
+
 impl<R: std::net::Net> UdpNet<R> {
     fn open(&self, port: u16) -> io::Result<UdpSocket> {
         let socket = UdpSocket::bind(&self.system, (Ipv4Addr::LOCALHOST, port))?;
@@ -163,7 +180,7 @@ impl<R: std::net::Net> Net for UdpNet<R> {
 
     fn send(&mut self, port: u16, bytes: &[u8]) -> Result<(), Failed> {
         let sent = match &self.socket {
-            Some(socket) => socket.send_to(bytes, (Ipv4Addr::LOCALHOST, port)).is_ok(),
+            Some(socket) => post(socket, &mut self.waits, port, bytes).is_ok(),
             None => false,
         };
         if sent {

@@ -18,3 +18,6 @@
 mod noting;
 
 pub use noting::{HEAD, input, noted, read_input, read_start};
+
+// What the crates above name through this one.
+pub use law_lengths::{call_fits, reply_fits, sends_packets, server, spelled};

@@ -8,6 +8,7 @@ use Rattle.pg_register.specs.Flag.{flag_of, is_live, is_raised}
 use Rattle.pg_store.specs.pg_names.Names.{InodeValue, known, own_or_blank}
 use Rattle.pg_store.specs.declared.store.Store.{Store}
 use Rattle.pg_store.specs.Births.{birth_of}
+use Rattle.pg_store.specs.Seen.{removed_of, server_of}
 
 -- the flags of a thing: none where it is not held
 abbrev pub flags_of : Store → FileId → List Flag
@@ -15,7 +16,7 @@ flags_of store file = (own_or_blank store.names file).flags
 
 -- the server's own replica of a thing is gold: its flag is raised, with the replica's birth
 abbrev pub is_gold : Store → FileId → Bool
-is_gold store file = is_raised (flags_of store file) store.names.server (birth_of store file)
+is_gold store file = is_raised (flags_of store file) (server_of store) (birth_of store file)
 
 -- ---- things that see no live gold
 
@@ -37,7 +38,7 @@ is_goldless_held removed server birth (Some x) = x.full
     && not (is_of_later birth (flag_of x.own.flags server)))
 
 abbrev pub is_goldless : Store → FileId → Bool
-is_goldless store file = is_goldless_held store.names.removed store.names.server
+is_goldless store file = is_goldless_held (removed_of store) (server_of store)
     (birth_of store file) (known store.names file)
 
 -- all such things, by id

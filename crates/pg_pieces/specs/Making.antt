@@ -9,12 +9,13 @@ use Rattle.pg_house.specs.pg_msg.Work.{with_made}
 use Rattle.pg_store.specs.pg_names.Names.{own_or_blank}
 use Rattle.pg_store.specs.declared.store.Store.{Store}
 use Rattle.pg_store.specs.Births.{birth_of}
+use Rattle.pg_store.specs.Seen.{server_of}
 use Rattle.pg_pieces.specs.Done.{Done}
 use Rattle.pg_pieces.specs.Taking.{take_flag_noted}
 
 -- the next flag of the server's replica of a thing
 abbrev pub own_next : Store → FileId → Bool → Flag
-own_next store file raised = next_flag (own_or_blank store.names file).flags store.names.server
+own_next store file raised = next_flag (own_or_blank store.names file).flags (server_of store)
     (birth_of store file) raised
 
 -- the server makes its flag of a thing, and takes it

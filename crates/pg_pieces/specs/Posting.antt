@@ -5,13 +5,13 @@ use Rattle.pg_house.specs.pg_msg.declared.message.Sent.{Sent}
 use Rattle.pg_house.specs.pg_msg.declared.work.Work.{Work}
 use Rattle.pg_house.specs.pg_msg.Work.{with_sent}
 use Rattle.pg_store.specs.declared.store.Store.{Store}
-use Rattle.pg_store.specs.Servers.{view_of}
+use Rattle.pg_store.specs.Seen.{server_of, view_of}
 
 -- a message on its way to a server, from this one and in its view
 abbrev pub sent_to : Store → ℕ → Message → Sent
 sent_to store to m = record {
   to = to;
-  packet = record { from = store.names.server; view = view_of store; message = m };
+  packet = record { from = server_of store; view = view_of store; message = m };
 }
 
 -- it is sent, behind those that are sent already

@@ -7,8 +7,7 @@ ghost use Rattle.pg_pieces.specs.Done.{link_of};
 use crate::posting::post;
 use pg_base::{FileId, NodeId};
 use pg_house::msg::{Ends, Linked, Message, Work};
-use pg_store::Store;
-use pg_store::replica::Link;
+use pg_store::{Link, Store};
 use std::alloc::AllocError;
 
 /// How a message along an edge is met.

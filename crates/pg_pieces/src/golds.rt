@@ -7,8 +7,7 @@ ghost use Rattle.pg_pieces.specs.Golds.{goldless, is_gold, is_goldless, is_goldl
 use pg_base::{FileId, Items, NodeId};
 use pg_house::dirty_things;
 use pg_register::{GoldFlags, is_removed};
-use pg_store::Store;
-use pg_store::names::{Inode, Names};
+use pg_store::{Inode, Names, Store};
 use std::alloc::AllocError;
 
 /// Whether the server's own replica of a thing is gold: its flag is raised, with the replica's

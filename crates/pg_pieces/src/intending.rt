@@ -4,8 +4,7 @@ ghost use Rattle.std.specs.Prelude.{◌≡◌, OnOk};
 ghost use Rattle.pg_pieces.specs.Intending.{begin_intent, with_begun_if};
 
 use pg_house::msg::Work;
-use pg_store::Store;
-use pg_store::intent::{Intent, IntentKey};
+use pg_store::{Intent, IntentKey, Store};
 use std::alloc::AllocError;
 
 /// An intention began, if it is new.

@@ -38,10 +38,31 @@ pub use golds::{goldless, is_gold, is_goldless};
 pub use intending::begin_intent;
 pub use making::{lower_flag, raise_flag};
 pub use parting::stays_for;
-pub use pg_call as call;
-pub use pg_house as house;
 pub use pg_house::msg;
-pub use pg_store as store;
-pub use pg_store::{intent, names, replica};
 pub use posting::{post, send};
 pub use taking::{take_entry, take_entry_cell, take_flag, take_flags, take_place, take_version};
+
+// What the crates above name through this one.
+pub mod call {
+    pub use pg_call::{Call, Counts, Payload, ReadCount, Refusal, Reply, Stat, Target};
+}
+
+pub mod house {
+    pub use pg_house::{count_held_back, dirty_things, first_held_back, is_root};
+}
+
+pub mod intent {
+    pub use pg_store::{Intent, IntentKey, Intents};
+}
+
+pub mod names {
+    pub use pg_store::{Attributes, Inode, Names, is_dir, is_same_stamp};
+}
+
+pub mod replica {
+    pub use pg_store::{Link, Replica};
+}
+
+pub mod store {
+    pub use pg_store::{COUNTER_LIMIT, LATEST_TIME, Store, Wish};
+}

@@ -13,9 +13,7 @@ use pg_base::{FileId, Kind};
 use pg_call::{Refusal, Unsettled};
 use pg_edges::Edge;
 use pg_house::dirty_things;
-use pg_store::Store;
-use pg_store::intent::Intent;
-use pg_store::names::{Inode, Names};
+use pg_store::{Inode, Intent, Names, Store};
 
 /// Whether what is held has a live place in the directory.
 fn is_child_of(dir: &FileId, file: &FileId, held: &Inode) -> bool

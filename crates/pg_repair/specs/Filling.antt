@@ -8,6 +8,7 @@ use Rattle.pg_pieces.specs.pg_names.declared.attributes.Attributes.{Attributes}
 use Rattle.pg_pieces.specs.pg_names.Names.{own_at}
 use Rattle.pg_pieces.specs.pg_names.Names as names
 use Rattle.pg_pieces.specs.pg_store.declared.store.Store.{Store}
+use Rattle.pg_pieces.specs.pg_store.Seen.{removed_of}
 use Rattle.pg_pieces.specs.pg_store.Store.{is_full, with_names}
 use Rattle.pg_pieces.specs.declared.accepting.EdgeUse.TheVariants as manner
 use Rattle.pg_pieces.specs.Accepting.{accept, is_accepted}
@@ -21,7 +22,7 @@ golds_of removed (Some own) = count_by (is_live removed) own.flags
 
 -- how many live golds a thing sees
 abbrev pub live_golds : Store → FileId → ℕ
-live_golds store file = golds_of store.names.removed (own_at store.names file)
+live_golds store file = golds_of (removed_of store) (own_at store.names file)
 
 -- a thing that sees fewer live golds than this becomes one when it is full
 abbrev pub few_golds : ℕ

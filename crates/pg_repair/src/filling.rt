@@ -10,7 +10,7 @@ use pg_pieces::{EdgeUse, accept, is_accepted, is_gold, raise_flag};
 use std::alloc::AllocError;
 
 /// A replica that sees fewer live golds than this becomes one when it is full.
-pub const FEW_GOLDS: u32 = 3;
+pub const FEW_GOLDS: u64 = 3;
 
 /// The sender has nothing that the replica here does not have: it is full from then on, where the
 /// message is accepted. After out of memory a part may be done.
@@ -67,7 +67,7 @@ fn raise_if_few(store: &mut Store, file: FileId, work: &mut Work) -> Result<(), 
 }
 
 /// How many live golds a thing sees.
-pub fn live_golds(store: &Store, file: &FileId) -> u32
+pub fn live_golds(store: &Store, file: &FileId) -> u64
     ensures { result ≡ live_golds store.now file.now }
 {
     match store.names.own(file) {

@@ -3,4 +3,5 @@ pub mod Gone
 pub mod Journals
 pub mod Showing
 pub mod Alike
+pub mod Lined
 pub mod Soaked

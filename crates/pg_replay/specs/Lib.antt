@@ -6,3 +6,4 @@ pub mod Going
 pub mod Soaking
 pub mod Soaked
 pub mod Apart
+pub mod Lines

@@ -2,8 +2,8 @@
 //!
 //! `journal` takes a schedule line by line, with the events of its settlings, and writes the
 //! journal; `shown` writes what servers hold, `mark` has what is counted of an event, `soak` runs
-//! a made schedule and tells what came of it, and `laws` says that meters change nothing but their
-//! own lines.
+//! a made schedule and tells what came of it. `laws` says that meters change nothing but their own
+//! lines, and that lines one behind the other are the events of one run.
 //!
 //! It touches a run (`pg_world`), and writes by `pg_trace`. What is replayed is told apart from
 //! what is counted: a replay notes a mark of each event, as plain data, and who drives it shows
@@ -12,7 +12,7 @@
 //! schedule brings.
 //!
 //! Definitions: `specs/Settling` (which events a line stands for), `Text` (the journal), `Marks`,
-//! `Soaking`, `Apart`; and for proofs `Going` and `Soaked`, how a replay goes on. A further line
+//! `Soaking`, `Apart`, `Lines`; and for proofs `Going` and `Soaked`, how a replay goes on. A further line
 //! of schedules: its events in `Settling`, its output in `Text`, and an arm of `Replay::answer`.
 #![tactic(auto)]
 
@@ -23,6 +23,6 @@ mod shown;
 mod soak;
 
 pub use journal::journal_of;
-pub use laws::journals_are_alike;
+pub use laws::{journals_are_alike, lines_are_events};
 pub use mark::{Mark, Outcome};
 pub use soak::summary_of;

@@ -17,7 +17,7 @@ use Rattle.pg_register.specs.Flag.{is_removed}
 use Rattle.pg_server.specs.declared.input.Input.{Input}
 use Rattle.pg_server.specs.declared.input.Input.TheVariants as input
 use Rattle.pg_run.specs.Journal.{bag, bag_after, bag_behind, mail, message_at, removals, to_live}
-use Rattle.pg_run.specs.Run.{Step, Taking, World, bag_step, delivery_step, effect_step, given_step, idle_step, is_due, is_last, is_live, is_server, next, run, run_from, start, taking_in, taking_message, why_void, world_after}
+use Rattle.pg_run.specs.Run.{Step, Taking, World, bag_step, coming_in, delivery_step, effect_step, given_step, idle_step, is_due, is_last, is_live, is_server, next, run, run_from, start, taking_in, taking_message, why_void, world_after}
 use Rattle.pg_run.proofs.Bags.{at_message, left_copied, left_without}
 
 -- ---- what is under way was sent once
@@ -210,13 +210,20 @@ pub run_more : (n : ℕ) (w : World) (events : List Event) (event : Event)
 run_more n w [] event = refl
 run_more n w (e ∷ events) event = run_more n (world_after w (next n w e)) events event
 
+-- no event admits a server, so whatever is said of the runs outlives those that do
+pub no_server_comes : (event : Event) (server : ℕ) → coming_in event ≡ Some server → ⊥
+no_server_comes event server h = absurd (let z : None ≡ Some server = h in cc)
+
 -- first: it holds at the start
 -- idle: it outlives an event in which no server takes an input
--- acts: and one in which a server does
+-- comes: and one in which a server comes
+-- acts: and one in which a server takes an input
 pub record OutlivesEvents (n : ℕ) (P : World → Type 0) : Type 0 where
   pub first : P (start n)
   pub idle : (w : World) (event : Event) (cause : Option VoidCause) → P w
       → P (world_after w (idle_step w event cause))
+  pub comes : (events : List Event) (event : Event) (server : ℕ) → coming_in event ≡ Some server
+      → P (run n events) → P (world_after (run n events) (next n (run n events) event))
   pub acts : (events : List Event) (event : Event) (t : Taking)
       → taking_in n (run n events) event ≡ Some t → Acts n (run n events) t → P (run n events)
       → P (world_after (run n events) (effect_step (run n events) event t.server t.asked))
@@ -232,6 +239,14 @@ module _ (n : ℕ) (P : World → Type 0) (k : OutlivesEvents n P) where
       subst (λ (z : Step). P (world_after (run n events) z)) (sym f.1)
       (k.acts events event t is f.0 h)
 
+  -- an event in which a server comes, or any other
+  kept_at : (events : List Event) (event : Event) (o : Option ℕ) → coming_in event ≡ o
+      → P (run n events) → P (world_after (run n events) (next n (run n events) event))
+  kept_at events event None is h =
+      let w = run n events in
+      kept_by events event (taking_in n w event) (next n w event) refl (framed n w event) h
+  kept_at events event (Some server) is h = k.comes events event server is h
+
   kept_on : (before events : List Event) → P (run n before) → P (run_from n (run n before) events)
   kept_on before [] h = h
   kept_on before (event ∷ events) h =
@@ -239,7 +254,7 @@ module _ (n : ℕ) (P : World → Type 0) (k : OutlivesEvents n P) where
       let more : run n (before ++ event ∷ []) ≡ world_after w (next n w event) =
       run_more n (start n) before event in
       let then : P (world_after w (next n w event)) =
-      kept_by before event (taking_in n w event) (next n w event) refl (framed n w event) h in
+      kept_at before event (coming_in event) refl h in
       subst (λ (v : World). P (run_from n v events)) more
       (kept_on (before ++ event ∷ []) events (subst P (sym more) then))
 

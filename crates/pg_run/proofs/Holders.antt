@@ -11,6 +11,7 @@ use Rattle.theory_flood_pieces.proofs.Choices.{chosen}
 use Rattle.pg_store.specs.declared.store.Store.{Store}
 use Rattle.pg_store.specs.Births.{has_birth}
 use Rattle.pg_store.specs.Links.{is_new_link, knows_later, put_link}
+use Rattle.pg_store.specs.Seen.{server_of}
 use Rattle.pg_store.specs.Store.{is_new_version, is_newer_entry, is_newer_flag, is_newer_place, put_entry, put_flag, put_place, put_version}
 use Rattle.pg_server.specs.pg_pieces.declared.accepting.EdgeUse.{EdgeUse}
 use Rattle.pg_server.specs.pg_pieces.declared.accepting.EdgeUse.TheVariants as manner
@@ -38,7 +39,7 @@ accept_names a ends way work =
     (met_names a ends way work)) refl
 
 abbrev pub IsBy : Store → Store → Type 0
-IsBy a b = b.names.server ≡ a.names.server
+IsBy a b = server_of b ≡ server_of a
 
 pub taken_by : (a : Store) (f : FileId) (c : Cell) (work : Work) → IsBy a (taken a f c work).store
 taken_by a f (cells.Place place) work =

@@ -17,6 +17,7 @@ use Rattle.pg_msg.specs.declared.work.Work.{Work}
 use Rattle.pg_msg.specs.Work.{new_work}
 use Rattle.pg_store.specs.declared.store.Store.{Store}
 use Rattle.pg_store.specs.Births.{birth_of}
+use Rattle.pg_store.specs.Seen.{removed_of, server_of}
 use Rattle.pg_store.specs.Store.{is_before_clock_end}
 use Rattle.pg_server.specs.pg_pieces.declared.accepting.EdgeUse.TheVariants as manner
 use Rattle.pg_server.specs.pg_pieces.Accepting.{accept, is_accepted}
@@ -71,7 +72,7 @@ pub record IsWalkOf (a : Store) (file : FileId) (origin birth : ℕ) (m : Sent) 
 -- what came is a walk that is passed on: it was accepted, and this server is not its origin
 abbrev pub IsPassedOn : Store → ℕ → Message → Sent → Type 0
 IsPassedOn a from (message.Walk ends origin birth hops word) m =
-    (is_accepted a from manner.Needs ends ≡ true) × ((origin == a.names.server) ≡ false)
+    (is_accepted a from manner.Needs ends ≡ true) × ((origin == server_of a) ≡ false)
     × IsWalkOf a ends.file origin birth m
 IsPassedOn a from _ m = ⊥
 
@@ -93,7 +94,7 @@ IsInvited a _ m = ⊥
 abbrev pub GoesLast : Store → Input → Sent → Type 0
 GoesLast a (input.Call moment call) m = IsInvited a call m
 GoesLast a (input.Tick moment word) m =
-    (file : FileId) × HasFewEdges a file × IsWalkOf a file a.names.server (birth_of a file) m
+    (file : FileId) × HasFewEdges a file × IsWalkOf a file (server_of a) (birth_of a file) m
 GoesLast a (input.Arrival packet) m =
     (is_heard a packet ≡ true) × IsPassedOn a packet.from packet.message m
 GoesLast a input.Restart m = ⊥
@@ -136,7 +137,7 @@ module _ (a : Store) (from : ℕ) (ends : Ends) (origin birth hops word : ℕ) w
   abbrev Passes : Sent → Type 0
   Passes = IsPassedOn a from Comes
 
-  walked_has : is_accepted a from manner.Needs ends ≡ true → (origin == a.names.server) ≡ false
+  walked_has : is_accepted a from manner.Needs ends ≡ true → (origin == server_of a) ≡ false
       → All Passes (walked a ends origin birth hops word Ons W).work.tail
   walked_has accepted other =
       chosen (λ (d : Done). All Passes d.work.tail) (goes_on hops Ons) (idle a (walk_on a ends.file origin birth hops word Ons W))
@@ -148,7 +149,7 @@ module _ (a : Store) (from : ℕ) (ends : Ends) (origin birth hops word : ℕ) w
   walk_has : All Passes (walk a ends origin birth hops word W).work.tail
   walk_has =
       let P : Done → Type 0 = λ d. All Passes d.work.tail in
-      let mine = origin == a.names.server in
+      let mine = origin == server_of a in
       let on = walked a ends origin birth hops word Ons W in
       decided P (is_accepted a from manner.Needs ends) (cond mine (idle a W) on) (accept a ends manner.Needs W)
       (λ accepted. decided P mine (idle a W) on (λ own. All-nil Passes) (λ other. walked_has accepted other))
@@ -212,7 +213,7 @@ module _ (Q : Sent → Type 0) (b : Store) (invited : (m : Sent) → IsInvite b 
       each_invites files (invite_of b file w)
       (chosen (λ (v : Work). All Q v.tail) (invites b file) (invite_along b file (loose_edge b file) w) w
       (along_invites file w old (loose_edge b file)
-      (λ e h. among_contained (edges_of b file) e (loose_in b.names.removed (own_at b.names file) (edges_of b file) e h))) old)
+      (λ e h. among_contained (edges_of b file) e (loose_in (removed_of b) (own_at b.names file) (edges_of b file) e h))) old)
 
 module _ (a : Store) (moment view server : ℕ) where
   abbrev Up : Work
@@ -250,7 +251,7 @@ module _ (a : Store) (moment word : ℕ) where
   from_has v None few = All-nil Begins
   from_has v (Some file) few =
       let edges = edges_of a file in
-      along_has Begins a file a.names.server (birth_of a file) 3 (v / length edges) (λ m is. (file, few file refl, is)) (new_work 0 0) refl
+      along_has Begins a file (server_of a) (birth_of a file) 3 (v / length edges) (λ m is. (file, few file refl, is)) (new_work 0 0) refl
       (slice_get edges (v % length edges)) (λ e h. edge_in edges (v % length edges) e h)
 
   begun_has : All Begins (tick_walks a word)
@@ -305,7 +306,7 @@ pub any_last : (a : Store) (asked : Input) (m : Sent) → GoesLast a asked m
     → IsAnyWalk a m ⊎ ((b : Store) × IsInvite b m)
 any_last a (input.Call moment c) m h = inr (invited_any a c m h)
 any_last a (input.Tick moment word) m h =
-    inl (record { file = h.0; origin = a.names.server; birth = birth_of a h.0; walk = h.2 })
+    inl (record { file = h.0; origin = server_of a; birth = birth_of a h.0; walk = h.2 })
 any_last a (input.Arrival packet) m h = inl (passed_any a packet.from packet.message m h.1)
 any_last a input.Restart m h = absurd h
 

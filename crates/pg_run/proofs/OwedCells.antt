@@ -21,6 +21,7 @@ use Rattle.pg_msg.specs.Sent.{cell_key, summary}
 use Rattle.pg_event.specs.declared.quiet.OwedKey.{OwedKey}
 use Rattle.pg_store.specs.declared.store.Store.{Store}
 use Rattle.pg_store.specs.Cells.{cell_at}
+use Rattle.pg_store.specs.Seen.{server_of}
 use Rattle.pg_store.specs.Store.{replica_at}
 use Rattle.pg_server.specs.pg_pieces.Posting.{sent_to}
 use Rattle.pg_server.specs.pg_cells.Sending.{cell_to, cell_under, cells_where, edge_cells, is_any, key_cell, replica_cells, waits}
@@ -58,12 +59,12 @@ module _ (a : Store) (file : FileId) (birth : ℕ) (e : Edge) (tag : ℕ) where
 
   version_told : (v : VersionValue) (large : Bool)
       → summary (sent_to a e.peer (cond large (message.Harbinger Along tag v.head) (message.Cell Along tag (cell.Version v))))
-      ≡ owed_with a.names.server file e (key.Version v.head.stamp) large
+      ≡ owed_with (server_of a) file e (key.Version v.head.stamp) large
   version_told v true = refl
   version_told v false = refl
 
   -- what tells of a cell is summed up as its key is owed
-  cell_told : (c : Cell) → summary (cell_to a file birth e c tag) ≡ owed_with a.names.server file e (cell_key c) (is_large (Some c))
+  cell_told : (c : Cell) → summary (cell_to a file birth e c tag) ≡ owed_with (server_of a) file e (cell_key c) (is_large (Some c))
   cell_told (cell.Place place) = refl
   cell_told (cell.Flag flag) = refl
   cell_told (cell.Entry entry sure) = refl
@@ -71,7 +72,7 @@ module _ (a : Store) (file : FileId) (birth : ℕ) (e : Edge) (tag : ℕ) where
 
 module _ (n s : ℕ) (a : Store) (whole : IsWhole n s a) (cells : KeysAreCells a) where
   abbrev Server : ℕ
-  Server = a.names.server
+  Server = server_of a
 
   module _ (file : FileId) (x : Replica) (held : replica_at a file ≡ Some x) where
     gate_is : (e : Edge) (k : Key × ℕ) → edge_to x.edges e.peer ≡ Some e → is_let a (owing Server file e k) ≡ not (waits a file e k.0)

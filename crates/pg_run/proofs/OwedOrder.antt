@@ -15,6 +15,7 @@ use Rattle.pg_edges.specs.Key.{key_cmp}
 use Rattle.pg_edges.specs.Edges.{peers, AscendFrom}
 use Rattle.pg_replica.specs.declared.replica.Replica.{Replica}
 use Rattle.pg_store.specs.declared.store.Store.{Store}
+use Rattle.pg_store.specs.Seen.{server_of}
 use Rattle.pg_event.specs.declared.quiet.OwedKey.{OwedKey}
 use Rattle.pg_server.specs.Owing.{edge_owes, owed_keys, replica_owes}
 use Rattle.pg_run.specs.Ticks.{owing_cmp}
@@ -193,10 +194,10 @@ replica_at_file server file (e ∷ es) =
 
 pub owed_sorted : (n s : ℕ) (a : Store) → IsWhole n s a → IsStrictlySortedBy owing_cmp (owed_keys a)
 owed_sorted n s a k =
-    sorted_parts owing_cmp (replica_owes a.names.server) (λ (r : FileId × Replica). IsAt r.0)
+    sorted_parts owing_cmp (replica_owes (server_of a)) (λ (r : FileId × Replica). IsAt r.0)
     (λ (r t : FileId × Replica). file_cmp r.0 t.0 ≡ Less)
-    (λ r. replica_at_file a.names.server r.0 r.1.edges)
+    (λ r. replica_at_file (server_of a) r.0 r.1.edges)
     (λ r t x y lt h k. by_file x y (ap (λ f. file_cmp f y.file) h ∙ ap (file_cmp r.0) k ∙ lt))
     a.replicas
     (ordered_by (λ (r : FileId × Replica). r.0) file_cmp a.replicas k.order)
-    (λ i d lt. replica_sorted n s a.names.server (get_or a.replicas i d) (k.replicas i d lt))
+    (λ i d lt. replica_sorted n s (server_of a) (get_or a.replicas i d) (k.replicas i d lt))

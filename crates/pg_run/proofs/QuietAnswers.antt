@@ -7,7 +7,7 @@ use Rattle.pg_event.specs.declared.quiet.Cause.{Cause}
 use Rattle.pg_event.specs.declared.quiet.Cause.TheVariants.{Message, Owed, View}
 use Rattle.pg_event.specs.declared.quiet.Quiet.TheVariants.{Quiet}
 use Rattle.pg_server.specs.Owing.{owed}
-use Rattle.pg_store.specs.Servers.{view_of}
+use Rattle.pg_store.specs.Seen.{view_of}
 use Rattle.pg_run.specs.Journal.{bag, removals}
 use Rattle.pg_run.specs.Run.{World, is_live}
 use Rattle.pg_run.specs.Quiet.{IsQuiet, causes, first_of, lag, of_live, quiet_of}

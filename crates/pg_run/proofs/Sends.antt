@@ -36,6 +36,7 @@ use Rattle.pg_replica.specs.declared.replica.Replica.{Replica}
 use Rattle.pg_store.specs.declared.store.Store.{Store}
 use Rattle.pg_store.specs.Births.{birth_of, has_birth, is_pending}
 use Rattle.pg_store.specs.Links.{is_clean, is_new_link, knows_later}
+use Rattle.pg_store.specs.Seen.{server_of}
 use Rattle.pg_store.specs.Store.{entry_news, is_full, is_held, is_new_version, is_newer_flag, is_newer_place, replica_at, with_names}
 use Rattle.pg_server.specs.pg_pieces.declared.accepting.EdgeUse.{EdgeUse}
 use Rattle.pg_server.specs.pg_pieces.declared.accepting.EdgeUse.TheVariants as manner
@@ -270,7 +271,7 @@ module _ (Q : Sent → Type 0) (plain : (m : Sent) → is_plain m.packet.message
   from_fine a word work None k = k
   from_fine a word work (Some f) k =
       let edges = edges_of a f in
-      along_fine a f a.names.server (birth_of a f) most_hops (word / length edges) work (slice_get edges (word % length edges)) k
+      along_fine a f (server_of a) (birth_of a f) most_hops (word / length edges) work (slice_get edges (word % length edges)) k
 
   -- of a tick
   pub tick_walk_fine : (a : Store) (word : ℕ) (work : Work) → Fine work → Fine (walk_of_tick a word work)
@@ -292,7 +293,7 @@ module _ (Q : Sent → Type 0) (plain : (m : Sent) → is_plain m.packet.message
       let P : Done → Type 0 = λ d. Fine d.work in
       let edges = onward a ends.file work.from origin in
       chosen P (is_accepted a work.from manner.Needs ends) _ (accept a ends manner.Needs work)
-      (chosen P (origin == a.names.server) (idle a work) (walked a ends origin birth hops word edges work) k (walked_fine a ends origin birth hops word edges work k))
+      (chosen P (origin == server_of a) (idle a work) (walked a ends origin birth hops word edges work) k (walked_fine a ends origin birth hops word edges work k))
       (accept_fine a ends manner.Needs work k)
 
   -- ---- leave

@@ -21,6 +21,7 @@ use Rattle.pg_replica.specs.declared.replica.Replica.{Replica}
 use Rattle.pg_store.specs.declared.store.Store.{Store}
 use Rattle.pg_store.specs.Births.{birth_of}
 use Rattle.pg_store.specs.Cells.{cell_at}
+use Rattle.pg_store.specs.Seen.{server_of}
 use Rattle.pg_store.specs.Store.{is_before_clock_end}
 use Rattle.pg_server.specs.pg_cells.Sending.{Wanted, cell_under, cells_where, edge_cells, is_any, key_cell, replica_cells, waits}
 use Rattle.pg_server.specs.pg_cells.Ticks.{tick}
@@ -99,7 +100,7 @@ module _ (a : Store) where
   from_same word w None = refl
   from_same word w (Some f) =
       let edges = edges_of a f in
-      along_same f a.names.server (birth_of a f) most_hops (word / length edges) w (slice_get edges (word % length edges))
+      along_same f (server_of a) (birth_of a f) most_hops (word / length edges) w (slice_get edges (word % length edges))
 
   walk_same : (word : ℕ) (w : Work) → walk_of_tick Free word w ≡ walk_of_tick a word w
   walk_same word w =

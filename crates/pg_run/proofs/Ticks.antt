@@ -27,6 +27,7 @@ use Rattle.theory_flood.specs.World.{after}
 use Rattle.theory_flood.proofs.Flood.{after_itself, here}
 use Rattle.pg_store.specs.declared.store.Store.{Store}
 use Rattle.pg_store.specs.Births.{birth_of}
+use Rattle.pg_store.specs.Seen.{removed_of, server_of}
 use Rattle.pg_store.specs.Store.{is_before_clock_end}
 use Rattle.pg_server.specs.pg_pieces.Done.{Done, idle}
 use Rattle.pg_server.specs.pg_cells.Sending.{cells_where, edge_cells, is_any, is_chosen, key_cell, replica_cells}
@@ -120,11 +121,11 @@ full_by true seen later h = ap (λ (t : Bool). not t && not later) (h refl)
 
 module _ (a : Store) (golds : FullSeeGold a) where
   sees_one : (f : FileId) (o : Option InodeValue) → known a.names f ≡ o
-      → is_goldless_held a.names.removed a.names.server (birth_of a f) o ≡ false
+      → is_goldless_held (removed_of a) (server_of a) (birth_of a f) o ≡ false
   sees_one f None is = refl
   sees_one f (Some x) is =
-      full_by x.full (sees_gold a.names.removed x.own.flags) (is_of_later (birth_of a f) (flag_of x.own.flags a.names.server))
-      (λ full. let gold = golds f x is full in sees a.names.removed x.own.flags gold.0 gold.1 gold.2)
+      full_by x.full (sees_gold (removed_of a) x.own.flags) (is_of_later (birth_of a f) (flag_of x.own.flags (server_of a)))
+      (λ full. let gold = golds f x is full in sees (removed_of a) x.own.flags gold.0 gold.1 gold.2)
 
   none_of : (fs : List FileId) → filter (is_goldless a) fs ≡ []
   none_of [] = refl

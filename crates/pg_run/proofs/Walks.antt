@@ -30,6 +30,7 @@ use Rattle.pg_replica.specs.declared.replica.Replica.{Replica}
 use Rattle.pg_replica.specs.Replicas.{or_nothing}
 use Rattle.pg_store.specs.declared.store.Store.{Store}
 use Rattle.pg_store.specs.Births.{birth_of}
+use Rattle.pg_store.specs.Seen.{server_of}
 use Rattle.pg_store.specs.Store.{is_full, replica_at}
 use Rattle.pg_server.specs.pg_pieces.Posting.{sent_to}
 use Rattle.pg_server.specs.pg_cells.Ticks.{tick}
@@ -60,7 +61,7 @@ from_is : (a : Store) (word : ℕ) (w : Work) (o : Option FileId)
     → walk_from a word w o ≡ with_more w (walk_from a word fresh o).tail
 from_is a word w None = with_none w
 from_is a word w (Some file) =
-    along_is a file a.names.server (birth_of a file) 3 (word / length (edges_of a file)) w
+    along_is a file (server_of a) (birth_of a file) 3 (word / length (edges_of a file)) w
     (slice_get (edges_of a file) (word % length (edges_of a file)))
 
 tick_by : (a : Store) (word : ℕ) (w : Work) (t : Bool)
@@ -165,9 +166,9 @@ module _ (n s : ℕ) (a : Store) (whole : IsWhole n s a) where
         let few = few_there a file (at_among file Files (word % length Files) chosen) in
         let edges = edges_of a file in
         let edge = some_at edges (First % length edges) (mod-lt First (omega (arith, few.least))) in
-        let m = sent_to a edge.0.peer (message.Walk (ends_to a file edge.0.birth) a.names.server (birth_of a file) 3 (First / length edges)) in (
+        let m = sent_to a edge.0.peer (message.Walk (ends_to a file edge.0.birth) (server_of a) (birth_of a file) 3 (First / length edges)) in (
           m,
-          ap (λ (o : Option Edge). (walk_along a file a.names.server (birth_of a file) 3 (First / length edges) fresh o).tail) edge.1,
+          ap (λ (o : Option Edge). (walk_along a file (server_of a) (birth_of a file) 3 (First / length edges) fresh o).tail) edge.1,
           record {
             file = file;
             chosen = chosen;

@@ -8,7 +8,7 @@ use Rattle.pg_base.specs.Id.{is_same_file}
 use Rattle.pg_msg.specs.declared.message.Message.{Message}
 use Rattle.pg_msg.specs.declared.message.Message.TheVariants as message
 use Rattle.pg_store.specs.declared.store.Store.{Store}
-use Rattle.pg_store.specs.Servers.{view_of}
+use Rattle.pg_store.specs.Seen.{view_of}
 use Rattle.pg_store.specs.Store.{is_before_clock_end}
 use Rattle.pg_server.specs.declared.input.Input.{Input}
 use Rattle.pg_server.specs.declared.input.Input.TheVariants as input

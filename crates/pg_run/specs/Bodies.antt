@@ -34,6 +34,7 @@ use Rattle.pg_server.specs.pg_transfer.Asking.{listed}
 use Rattle.pg_server.specs.Local.{is_heard}
 use Rattle.pg_store.specs.declared.store.Store.{Store}
 use Rattle.pg_store.specs.Links.{is_new_link}
+use Rattle.pg_store.specs.Seen.{server_of}
 use Rattle.pg_store.specs.Store.{content_of}
 use Rattle.theory_bodies.specs.Asked.{Asking}
 use Rattle.pg_run.specs.Asking.{wanted_by}
@@ -78,7 +79,7 @@ edges_beside a file from = filter (λ e. not (e.peer == from)) (edges_of a file)
 -- what is told of one key along the edge to the server, under the tag that the key has there
 abbrev pub IsOfLink : Store → ℕ → FileId → Sent → Type 0
 IsOfLink a from file m = (k : Key) × IsOwedCell a
-    (record { server = a.names.server; peer = from; file = file; key = k }) m
+    (record { server = server_of a; peer = from; file = file; key = k }) m
 
 -- a Seek of the file began, and this is its message
 pub record IsSeekBegun (a b : Store) (file : FileId) (m : Sent) : Type 0 where

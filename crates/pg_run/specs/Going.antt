@@ -16,6 +16,7 @@ use Rattle.pg_server.specs.declared.input.Input.{Input}
 use Rattle.pg_server.specs.declared.input.Input.TheVariants as input
 use Rattle.pg_server.specs.Local.{effect, takes_effect}
 use Rattle.pg_store.specs.declared.store.Store.{Store}
+use Rattle.pg_store.specs.Seen.{removed_of}
 use Rattle.pg_store.specs.Store.{replica_at}
 use Rattle.pg_store.specs.Together.{birth_at}
 use Rattle.pg_run.specs.Carried.{gone_in}
@@ -51,7 +52,7 @@ pub record SaysItWent (a : Store) (asked : Input) (file : FileId) (peer birth : 
 
 -- a server is removed in the view in which an event leaves another
 abbrev pub IsRemovedBehind : Store → Input → ℕ → Type 0
-IsRemovedBehind a asked server = is_removed (behind a asked).names.removed server ≡ true
+IsRemovedBehind a asked server = is_removed (removed_of (behind a asked)) server ≡ true
 
 -- an edge stays, or gives way to a greater birth, or its peer said that its replica is not there;
 -- or its peer is removed

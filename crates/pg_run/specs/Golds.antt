@@ -10,12 +10,13 @@ use Rattle.pg_intent.specs.Intents.{stands}
 use Rattle.pg_names.specs.Names.{InodeValue, known}
 use Rattle.pg_replica.specs.declared.replica.Replica.{Replica}
 use Rattle.pg_store.specs.declared.store.Store.{Store}
+use Rattle.pg_store.specs.Seen.{removed_of, server_of}
 use Rattle.pg_store.specs.Store.{replica_at}
 use Rattle.pg_run.specs.Laws.{AtEach, store_after}
 
 -- a live gold: its flag is raised, and its server is not removed in the server's view
 abbrev pub IsLiveGold : Store → Flag → Type 0
-IsLiveGold a flag = is_live a.names.removed flag ≡ true
+IsLiveGold a flag = is_live (removed_of a) flag ≡ true
 
 -- ---- what is seen
 
@@ -39,7 +40,7 @@ pub record HasReplica (a : Store) (file : FileId) (x : InodeValue) (r : Replica)
 -- the server's own flag of it is raised, with the replica's birth
 abbrev pub IsGold : Store → InodeValue → Replica → Type 0
 IsGold a x r = (flag : Flag) × Contains x.own.flags flag
-    × (flag.server ≡ a.names.server) × (flag.birth ≡ r.birth) × (flag.raised ≡ true)
+    × (flag.server ≡ server_of a) × (flag.birth ≡ r.birth) × (flag.raised ≡ true)
 
 -- an edge names the replica that a flag is of
 abbrev pub Names : Edge → Flag → Type 0
@@ -59,7 +60,7 @@ Seeks a file = stands a.intents (key.Seek file) ≡ true
 -- bronze: another names a live gold that it sees, or owes a Seek
 pub record NamesGolds (a : Store) (file : FileId) (x : InodeValue) (r : Replica) : Type 0 where
   pub gold : IsGold a x r → (flag : Flag) → Contains x.own.flags flag → IsLiveGold a flag
-      → flag.server ≢ a.names.server → NamesOne r flag ⊎ Seeks a file
+      → flag.server ≢ server_of a → NamesOne r flag ⊎ Seeks a file
   pub bronze : (IsGold a x r → ⊥) → NamesAGold a x r ⊎ Seeks a file
 
 -- GOLDS ARE NAMED: at each server, after every event

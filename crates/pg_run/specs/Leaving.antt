@@ -25,6 +25,7 @@ use Rattle.pg_server.specs.declared.input.Input.TheVariants as input
 use Rattle.pg_server.specs.Local.{takes_effect}
 use Rattle.pg_store.specs.declared.store.Store.{Store}
 use Rattle.pg_store.specs.Cells.{cell_at}
+use Rattle.pg_store.specs.Seen.{removed_of}
 use Rattle.pg_store.specs.Store.{replica_at}
 use Rattle.pg_store.specs.Together.{IsOver}
 use Rattle.pg_run.specs.Carried.{gone_in}
@@ -63,7 +64,7 @@ HeardEdgesAreKnown servers = (events : List Event) → AtEach servers (λ s.
     (file : FileId) (x : Replica) (e : Edge)
     → IsEdgeOf (store_after servers events s) file x e
     → IsHeard (store_after servers events s) file e
-    → is_removed (store_after servers events e.peer).names.removed s ≡ false
+    → is_removed (removed_of (store_after servers events e.peer)) s ≡ false
     → HasEdge (run servers events) file s e.peer ⊎ OwesBye (run servers events) s file x e)
 
 -- a Bye is owed of a birth that is over
@@ -131,7 +132,7 @@ pub record TookTheState (w : World) (file : FileId) (s t : ℕ) : Type 0 where
 abbrev pub DropsAreSafe : ℕ → Type 0
 DropsAreSafe servers = (events : List Event) (event : Event) (s from : ℕ) (file : FileId)
     → Goes servers events event s file from
-    → (from ≢ s) × (is_removed (store_after servers events s).names.removed from ≡ false)
+    → (from ≢ s) × (is_removed (removed_of (store_after servers events s)) from ≡ false)
     × Holds (run servers events) file from
     × TookTheState (run servers events) file s from
 

@@ -7,7 +7,7 @@ use Rattle.pg_event.specs.declared.quiet.Quiet.{Quiet}
 use Rattle.pg_event.specs.declared.quiet.Quiet.TheVariants as quiet
 use Rattle.pg_run.specs.Journal.{bag, removals}
 use Rattle.pg_server.specs.Owing.{owed}
-use Rattle.pg_store.specs.Servers.{view_of}
+use Rattle.pg_store.specs.Seen.{view_of}
 use Rattle.pg_run.specs.Run.{World, is_live}
 
 -- no message is under way, each live server has entered the last removal, and none owes anything:

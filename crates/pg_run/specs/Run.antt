@@ -13,6 +13,7 @@ use Rattle.pg_event.specs.declared.entry.VoidCause.{VoidCause}
 use Rattle.pg_event.specs.declared.entry.VoidCause.TheVariants.{Last, NoMessage, NoServer, Removed, Unremoved}
 use Rattle.theory_flood.specs.World.{after}
 use Rattle.pg_store.specs.declared.store.Store.{Store}
+use Rattle.pg_store.specs.Seen.{removed_of}
 use Rattle.pg_store.specs.Start.{first_flags}
 use Rattle.pg_store.specs.Store.{new_store}
 use Rattle.pg_server.specs.declared.input.Input.{Input}
@@ -75,7 +76,7 @@ took_first store wants takes asked =
 
 -- the servers that are removed in a server's view behind the first effect
 abbrev pub removed_then : Store → Input → List ℕ
-removed_then store asked = (first_effect store asked).store.names.removed
+removed_then store asked = removed_of (first_effect store asked).store
 
 -- what a server's replicas took then: what its first effect brings passes, and so does each update
 -- that the house rules make
@@ -130,10 +131,14 @@ effect_step w event server asked = record {
 abbrev pub is_server : ℕ → ℕ → Bool
 is_server servers server = nat_le 1 server && nat_le server servers
 
+-- a server of the run as it stands in a world: each world of a run has the servers of its start
+abbrev pub is_member : ℕ → World → ℕ → Bool
+is_member servers w server = is_server servers server
+
 -- a server of the run that is not removed
 abbrev pub is_live : ℕ → World → ℕ → Bool
 is_live servers w server =
-    is_server servers server && not (is_removed (removals w.journal) server)
+    is_member servers w server && not (is_removed (removals w.journal) server)
 
 -- why nothing happens at a server that is no live one
 abbrev pub why_void : ℕ → ℕ → VoidCause
@@ -230,6 +235,14 @@ taking_in servers w (Lose number) = None
 taking_in servers w (Repeat number) = None
 taking_in servers w (Restart server) = taking_at servers w server input.Restart
 taking_in servers w (Remove server) = None
+
+-- ---- which server comes in an event
+
+-- the one that it admits to the run. No event admits one: a run has the servers that it starts with
+abbrev pub coming_in : Event → Option ℕ
+coming_in event = None
+
+-- ---- one event behind another
 
 -- the world after a step
 abbrev pub world_after : World → Step → World

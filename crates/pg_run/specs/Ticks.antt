@@ -39,6 +39,7 @@ use Rattle.pg_names.specs.declared.attributes.Attributes.{Attributes}
 use Rattle.pg_names.specs.Names.{cell_at as entry_at, own_at}
 use Rattle.pg_replica.specs.declared.replica.Replica.{Replica}
 use Rattle.pg_store.specs.Births.{birth_of}
+use Rattle.pg_store.specs.Seen.{server_of}
 use Rattle.pg_store.specs.Store.{is_full, is_before_clock_end, replica_at}
 use Rattle.pg_server.specs.pg_pieces.Posting.{sent_to}
 use Rattle.pg_server.specs.pg_cells.Sending.{told_as, waits}
@@ -164,7 +165,7 @@ pub record IsWalk (a : Store) (files : List FileId) (word : ℕ) (m : Sent) : Ty
       ((word / length files) % length (edges_of a file)) ≡ Some edge
   pub whole : m ≡ sent_to a edge.peer (message.Walk
       (record { file = file; sender = birth_of a file; receiver = edge.birth })
-      a.names.server (birth_of a file) 3 ((word / length files) / length (edges_of a file)))
+      (server_of a) (birth_of a file) 3 ((word / length files) / length (edges_of a file)))
 
 -- few: of all replicas that have few edges, by id
 -- one: one walk, where the word is not 0 and there is such a replica

@@ -12,7 +12,8 @@ use Rattle.pg_replica.specs.declared.replica.Replica.{Replica}
 use Rattle.pg_store.specs.declared.store.Store.{Store}
 use Rattle.pg_store.specs.declared.wishes.Wish.{Wish}
 use Rattle.pg_store.specs.Births.{wish_at}
-use Rattle.pg_store.specs.Servers.{is_live_other, view_of}
+use Rattle.pg_store.specs.Seen.{removed_of, view_of}
+use Rattle.pg_store.specs.Servers.{is_live_other}
 use Rattle.pg_store.specs.Store.{replica_at}
 use Rattle.pg_run.specs.Going.{InEvents, behind, sent_in}
 use Rattle.pg_run.specs.Journal.{mail, removals}
@@ -26,11 +27,11 @@ use Rattle.pg_run.specs.Run.{World, run}
 -- edges: no edge leads to who is removed in its view
 -- wishes: no wish asks one
 pub record IsInView (w : World) (s : ℕ) (a : Store) : Type 0 where
-  pub front : take (view_of a) (removals w.journal) ≡ a.names.removed
+  pub front : take (view_of a) (removals w.journal) ≡ removed_of a
   pub within : view_of a ≤ length (removals w.journal)
-  pub own : is_removed a.names.removed s ≡ false
+  pub own : is_removed (removed_of a) s ≡ false
   pub edges : (file : FileId) (x : Replica) (e : Edge) → replica_at a file ≡ Some x
-      → IsAmong x.edges e → is_removed a.names.removed e.peer ≡ false
+      → IsAmong x.edges e → is_removed (removed_of a) e.peer ≡ false
   pub wishes : (file : FileId) (wish : Wish) → wish_at a file ≡ Some wish → wish.target ≢ 0
       → is_live_other a wish.target ≡ true
 
@@ -64,8 +65,8 @@ MessagesAreOfViews servers = (events : List Event) (m : Sent)
 -- what is removed in a server's view stays so
 abbrev pub ViewsGrow : ℕ → Type 0
 ViewsGrow servers = (events more : List Event) → AtEach servers (λ s. (t : ℕ)
-    → is_removed (store_after servers events s).names.removed t ≡ true
-    → is_removed (store_after servers (events ++ more) s).names.removed t ≡ true)
+    → is_removed (removed_of (store_after servers events s)) t ≡ true
+    → is_removed (removed_of (store_after servers (events ++ more) s)) t ≡ true)
 
 -- what a server sends in an event is from it, and of the view in which the event leaves it
 abbrev pub MessagesAreSentInView : ℕ → Type 0

@@ -9,6 +9,7 @@ use Rattle.pg_event.specs.declared.quiet.Owing.{Owing}
 use Rattle.pg_event.specs.declared.quiet.Owing.TheVariants as owing
 use Rattle.pg_calls.specs.pg_house.Holding.{held_back}
 use Rattle.pg_calls.specs.pg_store.declared.store.Store.{Store}
+use Rattle.pg_calls.specs.pg_store.Seen.{server_of}
 use Rattle.pg_server.specs.Owing.{held_at, owed, owed_intents, owed_keys, owed_places}
 
 first_mapped : {A B : Type 0} (f : A → B) (xs : List A) (a : A) → slice_get xs 0 ≡ Some a → slice_get (map f xs) 0 ≡ Some (f a)
@@ -45,13 +46,13 @@ pub first_key : (store : Store) (k : OwedKey) → slice_get (owed_keys store) 0 
 first_key store k is = first_of_first owing.Key (owed_keys store) (owed_places store) k is
 
 pub first_place : (store : Store) (id : FileId) → slice_get (owed_keys store) 0 ≡ None → slice_get (held_back store.names) 0 ≡ Some id
-    → slice_get (keys_and_places store) 0 ≡ Some (owing.HeldBack store.names.server id)
+    → slice_get (keys_and_places store) 0 ≡ Some (owing.HeldBack (server_of store) id)
 first_place store id none held =
     first_of_second owing.Key (owed_keys store) (owed_places store) none
-    ∙ first_mapped (held_at store.names.server) (held_back store.names) id held
+    ∙ first_mapped (held_at (server_of store)) (held_back store.names) id held
 
 pub nothing_owed : (store : Store) → slice_get (owed_keys store) 0 ≡ None → slice_get (held_back store.names) 0 ≡ None
     → slice_get (keys_and_places store) 0 ≡ None
 nothing_owed store none no_place =
     first_of_second owing.Key (owed_keys store) (owed_places store) none
-    ∙ ap (λ (os : List Owing). slice_get os 0) (none_mapped (held_at store.names.server) (held_back store.names) no_place)
+    ∙ ap (λ (os : List Owing). slice_get os 0) (none_mapped (held_at (server_of store)) (held_back store.names) no_place)

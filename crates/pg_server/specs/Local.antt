@@ -11,7 +11,8 @@ use Rattle.pg_calls.specs.pg_msg.declared.work.Work.{Work}
 use Rattle.pg_calls.specs.pg_msg.Numbers.{is_in_range}
 use Rattle.pg_calls.specs.pg_msg.Work.{new_work}
 use Rattle.pg_calls.specs.pg_store.declared.store.Store.{Store}
-use Rattle.pg_calls.specs.pg_store.Servers.{is_live_other, view_of}
+use Rattle.pg_calls.specs.pg_store.Seen.{view_of}
+use Rattle.pg_calls.specs.pg_store.Servers.{is_live_other}
 use Rattle.pg_calls.specs.pg_store.Store.{is_before_clock_end}
 use Rattle.pg_calls.specs.pg_cells.Acks.{ack}
 use Rattle.pg_calls.specs.pg_cells.Cells.{cell}

@@ -13,6 +13,7 @@ use Rattle.pg_calls.specs.pg_intent.declared.intent.Intent.{Intent}
 use Rattle.pg_calls.specs.pg_intent.Intent.{child_of, file_of, kind_of, target_of}
 use Rattle.pg_calls.specs.pg_replica.declared.replica.Replica.{Replica}
 use Rattle.pg_calls.specs.pg_store.declared.store.Store.{Store}
+use Rattle.pg_calls.specs.pg_store.Seen.{server_of}
 
 -- ---- intentions
 
@@ -28,7 +29,7 @@ intent_owed server i = record {
 
 -- all of a server, in the order in which they began
 abbrev pub owed_intents : Store → List OwedIntent
-owed_intents store = map (intent_owed store.names.server) store.intents
+owed_intents store = map (intent_owed (server_of store)) store.intents
 
 -- ---- keys
 
@@ -46,7 +47,7 @@ file_owes server file None = []
 file_owes server file (Some x) = replica_owes server (file, x)
 
 abbrev pub owed_keys : Store → List OwedKey
-owed_keys store = flat_map (replica_owes store.names.server) store.replicas
+owed_keys store = flat_map (replica_owes (server_of store)) store.replicas
 
 -- ---- places held back
 
@@ -55,7 +56,7 @@ abbrev pub held_at : ℕ → FileId → Owing
 held_at server id = owing.HeldBack server id
 
 abbrev pub owed_places : Store → List Owing
-owed_places store = map (held_at store.names.server) (held_back store.names)
+owed_places store = map (held_at (server_of store)) (held_back store.names)
 
 -- ---- all
 

@@ -28,6 +28,4 @@ mod server;
 
 pub use error::StepError;
 pub use input::{Input, Out};
-pub use pg_calls::{call, msg, names, pieces, store};
-pub use pg_event as event;
 pub use server::Server;

@@ -1,6 +1,7 @@
 //! What a server owes.
 
 ghost use Rattle.std.specs.Prelude.{◌≡◌, ◌++◌, map, slice_get};
+ghost use Rattle.pg_calls.specs.pg_store.Seen.{server_of};
 ghost use Rattle.pg_calls.specs.pg_store.Store.{replica_at};
 ghost use Rattle.pg_server.specs.Owing.{edge_owes, file_owes, intent_owed, owed, owed_intents, owed_keys, owed_places, replica_owes};
 
@@ -42,7 +43,7 @@ fn first_of_replica(server: NodeId, file: FileId, replica: &Replica) -> Option<O
 /// The first unacknowledged key of a file's replica.
 fn first_of_file(store: &Store, file: &FileId) -> Option<OwedKey>
     ensures { result
-        ≡ slice_get (file_owes store.now.names.server file.now (replica_at store.now file.now)) 0 }
+        ≡ slice_get (file_owes (server_of store.now) file.now (replica_at store.now file.now)) 0 }
 {
     match store.replica(file) {
         Some(replica) => first_of_replica(store.server(), *file, replica),

@@ -34,7 +34,7 @@ use Rattle.pg_replica.specs.declared.replica.Replica.{Replica}
 use Rattle.pg_replica.specs.Replicas.{ByFile, or_nothing, replica_in}
 use Rattle.pg_store.specs.declared.seekers.Seekers.{Seekers}
 use Rattle.pg_store.specs.Seekers.{AreMarked, Marks, is_touched, may_seek, seeks, seeks_as}
-use Rattle.pg_store.specs.Walkers.{sends_as}
+use Rattle.pg_walkers.specs.Walkers.{sends_as}
 use Rattle.pg_store.proofs.Marked.{free_fresh, marked_stale}
 use Rattle.pg_store.proofs.Rising.{SomeNew, greatest_rises, new_differs}
 

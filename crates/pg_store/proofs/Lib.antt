@@ -13,10 +13,11 @@ pub mod Entering
 pub mod Entered
 pub mod Wished
 mod AtEnd
-pub mod Relisted
+pub mod AllListed
 pub mod Marked
 mod Rising
 pub mod Housed
+pub mod Counted
 pub use Rattle.pg_intent.proofs as pg_intent
 pub use Rattle.pg_names.proofs as pg_names
 pub use Rattle.pg_replica.proofs as pg_replica

@@ -26,7 +26,7 @@ use Rattle.pg_replica.specs.Replicas.{ByFile, or_nothing, put_replica, replica_i
 use Rattle.pg_replica.proofs.Going.{replica_behind}
 use Rattle.pg_store.specs.declared.seekers.Seekers.{Seekers}
 use Rattle.pg_store.specs.Seekers.{AreMarked, Marks, is_marked, is_stale, seeks_as}
-use Rattle.pg_store.specs.Walkers.{sends_as}
+use Rattle.pg_walkers.specs.Walkers.{sends_as}
 
 -- ---- what a change of one thing leaves of the others
 

@@ -1,7 +1,7 @@
 pub mod Start
 pub mod Wishes
 pub mod Value
-pub mod Walkers
+pub mod Seen
 pub mod Seekers
 pub mod Store
 pub mod Births

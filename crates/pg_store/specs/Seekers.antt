@@ -14,7 +14,7 @@ use Rattle.pg_names.specs.Names.{NamesValue, own_at}
 use Rattle.pg_replica.specs.declared.replica.Replica.{Replica}
 use Rattle.pg_replica.specs.Replicas.{ByFile, or_nothing, replica_in}
 use Rattle.pg_store.specs.declared.seekers.Seekers.{Seekers}
-use Rattle.pg_store.specs.Walkers.{sends_walks}
+use Rattle.pg_walkers.specs.Walkers.{sends_walks}
 
 -- an edge matches a raised flag of a live server: that of its peer has the birth that it names
 abbrev pub matches : List ℕ → List Flag → Edge → Bool

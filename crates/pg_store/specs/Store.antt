@@ -26,6 +26,7 @@ use Rattle.pg_replica.specs.Replicas.{ByFile, edge_count, have_own_end, or_nothi
 use Rattle.pg_store.specs.declared.store.Store.{Store}
 use Rattle.pg_store.specs.declared.taking.EntryNews.{EntryNews}
 use Rattle.pg_store.specs.declared.taking.EntryNews.TheVariants as news
+use Rattle.pg_store.specs.Seen.{server_of}
 use Rattle.pg_store.specs.Start.{first_names, first_replicas}
 
 -- a server at the start of a run with so many servers
@@ -110,7 +111,7 @@ have_own_flag_at_end names =
 -- known here
 abbrev pub is_before_clock_end : Store → Bool
 is_before_clock_end store = has_time store.names.last store.tags store.files store.births
-    && (not (have_own_end store.replicas store.names.server)
+    && (not (have_own_end store.replicas (server_of store))
     && not (have_own_flag_at_end store.names))
 
 -- ---- other names, and all else as it was

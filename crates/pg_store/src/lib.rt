@@ -7,16 +7,15 @@
 //! cuts edges; `beginning` lets replicas begin and go; `cells` reads the cell of a key; `lists`
 //! lends what stands in a directory, what lists a thing and what a peer has not acknowledged;
 //! `views` enters a view; `settling` lets the house rules run, and lends what may seek a gold
-//! replica (`seekers`) and what sends walks (`walkers`); `servers` says who is live and who is asked
-//! next; `wishes` has what clients asked for.
+//! replica (`seekers`) and what sends walks; `servers` says who is live and who is asked next;
+//! `wishes` has what clients asked for.
 //!
 //! A change here keeps names and replicas together: what is held in one is held in the other, and
 //! what is news touches its key on every edge. No message is made or sent.
 //!
 //! Kept by the type: what seeks a gold replica is marked (`seekers`), so that nobody has to look
-//! for it among all that is held. Each write of names or replicas marks its file first. What sends
-//! walks is listed by the same marks: at the end of an event each marked thing is looked at anew,
-//! and from then until something is marked the list is whole.
+//! for it among all that is held. Each write of names or replicas marks its file first. By the same
+//! marks what sends walks is listed anew at the end of an event.
 //!
 //! The laws (`laws`): births move one way, and a server that enters a view cuts the edges to who is
 //! removed and changes nothing else. `is_before_clock_end` tells of a number at its end.
@@ -41,13 +40,12 @@ mod store;
 mod taking;
 mod versions;
 mod views;
-mod walkers;
 mod wishes;
 
 pub use laws::{births_move, views_are_entered};
-pub use pg_intent as intent;
-pub use pg_names as names;
-pub use pg_replica as replica;
+pub use pg_intent::{Intent, IntentKey, Intents};
+pub use pg_names::{Attributes, Inode, Names, is_dir, is_same_stamp};
+pub use pg_replica::{Link, Replica};
 pub use store::{COUNTER_LIMIT, LATEST_TIME, Store};
 pub use taking::EntryNews;
 pub use wishes::{Wish, Wishes};

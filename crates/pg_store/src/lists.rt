@@ -16,7 +16,7 @@ impl Store {
         self.names.children(&dir).as_slice()
     }
 
-    /// The held directories that have a cell for a thing, by id.
+    /// The held things that have a cell for a thing, by id.
     pub fn holders(&self, child: FileId) -> &[FileId]
         ensures { result.now ≡ holders self.now.names child }
     {

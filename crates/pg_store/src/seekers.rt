@@ -5,14 +5,14 @@ ghost use Rattle.pg_base.specs.declared.id.FileId.{FileId};
 ghost use Rattle.pg_base.specs.Id.{is_same_file};
 ghost use Rattle.pg_index.specs.Ids.{is_one_of};
 ghost use Rattle.pg_store.specs.Seekers.{Marks, is_stale, is_touched};
-ghost use Rattle.pg_store.specs.Walkers.{AreListed, sends_walks};
+ghost use Rattle.pg_walkers.specs.Walkers.{AreListed, sends_walks};
 
-use crate::walkers::{all_walkers, relist_each};
 use pg_base::FileId;
 use pg_house::msg::Touched;
 use pg_index::Ids;
 use pg_names::Names;
 use pg_replica::Replicas;
+use pg_walkers::{all_walkers, relist_each};
 use std::alloc::{AllocError, Global};
 
 /// The things that may seek a gold replica, and those that send walks. What changes is marked: it

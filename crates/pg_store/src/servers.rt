@@ -1,7 +1,8 @@
 //! The other servers.
 
 ghost use Rattle.std.specs.Prelude.{◌≡◌};
-ghost use Rattle.pg_store.specs.Servers.{first_target, is_live_other, next_target, view_of};
+ghost use Rattle.pg_store.specs.Seen.{view_of};
+ghost use Rattle.pg_store.specs.Servers.{first_target, is_live_other, next_target};
 
 use crate::store::Store;
 use pg_base::NodeId;

@@ -7,7 +7,7 @@ ghost use Rattle.pg_house.specs.House.{house};
 ghost use Rattle.pg_house.specs.Work.{state_of};
 ghost use Rattle.pg_store.specs.Seekers.{may_seek};
 ghost use Rattle.pg_store.specs.Store.{with_names};
-ghost use Rattle.pg_store.specs.Walkers.{walkers_of};
+ghost use Rattle.pg_walkers.specs.Walkers.{walkers_of};
 
 use crate::store::Store;
 use pg_base::FileId;
@@ -17,8 +17,7 @@ use pg_index::Ids;
 use std::alloc::{AllocError, Global};
 
 impl Store {
-    /// Runs the house rules until none applies. `moment` is the clock at this event. After out of
-    /// memory a part may be done.
+    /// Runs the house rules until none applies, at a moment. After out of memory part may be done.
     pub fn house(&mut self, work: &mut Work, moment: u64) -> Result<(), AllocError>
         requires { self.old.names.last ≤ 2 ^ 62 + 2 ^ 40 }
         ensures store { OnOk result (self.new

@@ -5,6 +5,7 @@ ghost use Rattle.std.specs.List.{list_any};
 ghost use Rattle.std.specs.Option.{option_copied};
 ghost use Rattle.pg_replica.specs.Replica.{has_edge};
 ghost use Rattle.pg_store.specs.Births.{birth_of, has_birth};
+ghost use Rattle.pg_store.specs.Seen.{server_of};
 ghost use Rattle.pg_store.specs.Store.{acknowledge, has_time, have_own_flag_at_end, is_before_clock_end, is_end_at, is_own_flag_at_end, new_store, replica_at, replica_of, store_of, touch};
 
 use crate::seekers::Seekers;
@@ -67,8 +68,7 @@ impl Model for Store {
     ghost invariant = { λ s. AreMarked s.names s.replicas s.seekers };
 }
 
-/// Where more tags than this were given out, no version is made and no key is touched: memory ends
-/// before.
+/// From more tags than this on no version is made and no key is touched: memory ends before.
 pub const COUNTER_LIMIT: u64 = 1 << 63;
 
 /// From a greatest time behind this no house rule draws a stamp: memory ends before. A call draws
@@ -120,7 +120,7 @@ impl Store {
 
     /// The number of this server.
     pub fn server(&self) -> NodeId
-        ensures { result ≡ self.now.names.server }
+        ensures { result ≡ server_of self.now }
     {
         self.names.server()
     }
@@ -200,8 +200,7 @@ impl Store {
         }
     }
 
-    /// Puts a fresh tag at the key on each edge of the replica, by peers. After out of memory a
-    /// part may be done.
+    /// Puts a fresh tag at the key on each edge, by peers. After out of memory a part may be done.
     pub fn touch(&mut self, file: FileId, key: Key) -> Result<(), AllocError>
         ensures { OnOk result (self.new ≡ touch self.old file key) }
     {

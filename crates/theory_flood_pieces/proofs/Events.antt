@@ -22,6 +22,7 @@ use Rattle.pg_cells.specs.pg_msg.Sent.{cell_key}
 use Rattle.pg_cells.specs.pg_replica.declared.replica.Replica.{Replica}
 use Rattle.pg_cells.specs.pg_store.declared.store.Store.{Store}
 use Rattle.pg_cells.specs.pg_store.Cells.{cell_at}
+use Rattle.pg_cells.specs.pg_store.Seen.{server_of}
 use Rattle.pg_cells.specs.pg_store.Store.{replica_at}
 use Rattle.pg_cells.specs.pg_pieces.Posting.{sent_to}
 use Rattle.theory_flood_pieces.specs.Seen.{Along, Hearing, cells_in, head_cell, plain, says, saying, seen}
@@ -99,7 +100,7 @@ module _ (along : Along) (s : ℕ) (a b : Store) (from : ℕ) (ends : Ends) (tag
   abbrev At : Slot
   At = slot ends.file ends.sender s ends.receiver (cell_key c)
 
-  pub answer_sent : b.names.server ≡ s → (x : Replica) → replica_at b ends.file ≡ Some x → x.birth ≡ ends.receiver → Holds IsUpTo (cell_at b ends.file) c
+  pub answer_sent : server_of b ≡ s → (x : Replica) → replica_at b ends.file ≡ Some x → x.birth ≡ ends.receiver → Holds IsUpTo (cell_at b ends.file) c
       → (d : Store) → Steps (cells_in along) b d → AllMay (cells_in along) s a d Heard (sent_to b from (message.Ack (back ends) (cell_key c) tag) ∷ [])
   answer_sent server x here birth holds d f =
       let m = sent_to b from (message.Ack (back ends) (cell_key c) tag) in
@@ -112,7 +113,7 @@ module _ (along : Along) (s : ℕ) (a b : Store) (from : ℕ) (ends : Ends) (tag
 
 -- at once, where it holds the version or a later one
 module _ (along : Along) (s : ℕ) (a b : Store) (from : ℕ) (ends : Ends) (tag : ℕ) (head : Head) where
-  pub harbinger_answer_sent : (tag == 0) ≡ false → b.names.server ≡ s → (x : Replica) → replica_at b ends.file ≡ Some x
+  pub harbinger_answer_sent : (tag == 0) ≡ false → server_of b ≡ s → (x : Replica) → replica_at b ends.file ≡ Some x
       → x.birth ≡ ends.receiver → Holds IsUpTo (cell_at b ends.file) (head_cell head)
       → (d : Store) → Steps (cells_in along) b d
       → AllMay (cells_in along) s a d (saying from s (message.Harbinger ends tag head)) (sent_to b from (message.Ack (back ends) (key.Version head.stamp) tag) ∷ [])
@@ -131,7 +132,7 @@ module _ (along : Along) (s : ℕ) (a b : Store) (heard : Saying Slot Cell) (fro
       → (d : Store) → Steps (cells_in along) b d → AllMay (cells_in along) s a d heard (sent_to b from (message.Ack (back ends) k tag) ∷ [])
   late_sent noted here covers ends k d f =
       let m = sent_to b from (message.Ack (back ends) k tag) in
-      let at : Slot = slot ends.file ends.sender b.names.server ends.receiver k in
+      let at : Slot = slot ends.file ends.sender (server_of b) ends.receiver k in
       one_sent (cells_in along) s a d heard m []
       (late_answer_may (cells_in along) s a d heard from told at tag (head_cell head) here noted (f.moves.covers told (head_cell head) covers))
       (none_sent (cells_in along) s a d heard)

@@ -32,9 +32,9 @@ server_by : (f : Flag) (fs : List Flag) (n : ℕ) (t : Bool) (g : Flag) → (f.s
 server_by f fs n true g e h rest = let same : f ≡ g = cc in ap (λ (x : Flag). x.server) (sym same) ∙ eqb-true f.server n e
 server_by f fs n false g e h rest = rest h
 
-pub server_of : (fs : List Flag) (n : ℕ) (g : Flag) → flag_of fs n ≡ Some g → g.server ≡ n
-server_of [] n g h = absurd (let z : None ≡ Some g = h in cc)
-server_of (f ∷ fs) n g h = server_by f fs n (f.server == n) g refl h (server_of fs n g)
+pub flag_server : (fs : List Flag) (n : ℕ) (g : Flag) → flag_of fs n ≡ Some g → g.server ≡ n
+flag_server [] n g h = absurd (let z : None ≡ Some g = h in cc)
+flag_server (f ∷ fs) n g h = server_by f fs n (f.server == n) g refl h (flag_server fs n g)
 
 older_once : (b n c m : ℕ) → (nat_lt b c || (b == c && nat_lt n m)) ≡ true → (nat_lt c b || (c == b && nat_lt m n)) ≡ false
 older_once b n c m h = grind (arith, nat_tests)
@@ -50,7 +50,7 @@ newest_known (Some f) g same = newest_by f g (is_older f g) (same f refl) refl
 
 -- after a flag came what was known is known, and the flag is
 join_by : (fs : List Flag) (g : Flag) (n : ℕ) (t : Bool) → eqb g.server n ≡ t → IsFlagKnownBy (flag_of fs n) (cond t (newest (flag_of fs n) (Some g)) (flag_of fs n))
-join_by fs g n true e = (newest_known (flag_of fs n) g (λ f h. server_of fs n f h ∙ sym (eqb-true g.server n e))).0
+join_by fs g n true e = (newest_known (flag_of fs n) g (λ f h. flag_server fs n f h ∙ sym (eqb-true g.server n e))).0
 join_by fs g n false e = known_itself (flag_of fs n)
 
 pub flag_joined : (fs : List Flag) (g : Flag) → AreFlagsUpTo fs (join_flag fs g)
@@ -61,7 +61,7 @@ flag_there fs g =
     let P : Option Flag → Type 0 = λ o. IsFlagKnownBy (Some g) o in
     let own : flag_of (join_flag fs g) g.server ≡ newest (flag_of fs g.server) (Some g) =
     flag_of-join_flag g fs g.server ∙ ap (λ t. cond t (newest (flag_of fs g.server) (Some g)) (flag_of fs g.server)) (eq-eqb g.server g.server refl) in
-    subst P (sym own) (newest_known (flag_of fs g.server) g (λ f h. server_of fs g.server f h)).1
+    subst P (sym own) (newest_known (flag_of fs g.server) g (λ f h. flag_server fs g.server f h)).1
 
 -- of another server the flag stays
 pub flag_apart : (fs : List Flag) (g : Flag) (n : ℕ) → eqb g.server n ≡ false → flag_of (join_flag fs g) n ≡ flag_of fs n
@@ -95,7 +95,7 @@ none_by : (fs : List Flag) (g : Flag) (gs : List Flag) (n : ℕ) (t : Bool) → 
     → IsFlagKnownBy (cond t (Some g) (flag_of gs n)) (flag_of fs n)
 none_by fs g gs n true e old rest =
     let P : ℕ → Type 0 = λ m. IsFlagKnownBy (Some g) (flag_of fs m) in
-    subst P (eqb-true g.server n e) (old_known (flag_of fs g.server) g (λ f h. server_of fs g.server f h) old)
+    subst P (eqb-true g.server n e) (old_known (flag_of fs g.server) g (λ f h. flag_server fs g.server f h) old)
 none_by fs g gs n false e old rest = rest
 
 pub no_news : (fs gs : List Flag) → brings_news fs gs ≡ false → AreFlagsUpTo gs fs

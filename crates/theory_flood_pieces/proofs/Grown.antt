@@ -30,7 +30,7 @@ use Rattle.theory_flood_pieces.specs.Names.{IsEntryKnownBy}
 use Rattle.theory_flood_pieces.specs.Seen.{Along, at_once, cells, cells_in, plain, seen, standing}
 use Rattle.theory_flood_pieces.specs.UpTo.{IsFlagKnownBy, IsPlaceUpTo, IsUpTo}
 use Rattle.theory_flood_pieces.specs.Whole.{AreByChild, IsWhole}
-use Rattle.theory_flood_pieces.proofs.Flags.{server_of}
+use Rattle.theory_flood_pieces.proofs.Flags.{flag_server}
 use Rattle.theory_flood_pieces.proofs.Sending.{own_key}
 use Rattle.theory_flood_pieces.proofs.Stores.{plain_at}
 use Rattle.theory_flood_pieces.proofs.UpTo.{cell_itself}
@@ -199,7 +199,7 @@ module _ (along : Along) (n s : ℕ) (a b : Store) (k : IsWhole n s a) (l : IsWh
         → IsFlagKnownBy (Some flag) (flag_of (own_or_blank b.names f).flags m)
     some_flag m flag is =
         let h = all_cells (key.Flag m) (cell.Flag flag) (ap flag_cell is) in
-        flag_from b l.names.children f flag m h.key h.cell (server_of Mine.flags m flag is) h.is h.upto
+        flag_from b l.names.children f flag m h.key h.cell (flag_server Mine.flags m flag is) h.is h.upto
 
     flag_by : (m : ℕ) (o : Option Flag) → flag_of Mine.flags m ≡ o
         → IsFlagKnownBy o (flag_of (own_or_blank b.names f).flags m)

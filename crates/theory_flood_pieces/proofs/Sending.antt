@@ -34,6 +34,7 @@ use Rattle.pg_cells.specs.pg_replica.Replica.{cell_at as head_at}
 use Rattle.pg_cells.proofs.pg_replica.Growth.{cell_head}
 use Rattle.pg_cells.specs.pg_store.declared.store.Store.{Store}
 use Rattle.pg_cells.specs.pg_store.Cells.{cell_at, entry_cell, flag_cell, is_sure, version_cell}
+use Rattle.pg_cells.specs.pg_store.Seen.{server_of}
 use Rattle.pg_cells.specs.pg_store.Store.{content_of, replica_at}
 use Rattle.pg_cells.specs.pg_pieces.Posting.{sent_to}
 use Rattle.pg_cells.specs.Finish.{finish}
@@ -42,14 +43,14 @@ use Rattle.pg_cells.specs.Ticks.{tick}
 use Rattle.theory_flood_pieces.specs.Seen.{Along, cells_in, head_cell, plain, says, saying, seen}
 use Rattle.theory_flood_pieces.specs.Whole.{AreByChild, AreEdges, IsEdge, IsWhole}
 use Rattle.theory_flood_pieces.proofs.Choices.{All-flat_map, chosen}
-use Rattle.theory_flood_pieces.proofs.Flags.{server_of}
+use Rattle.theory_flood_pieces.proofs.Flags.{flag_server}
 use Rattle.theory_flood_pieces.proofs.Found.{edges_found, entries_known, keys_found, tag_on_edge}
 
 -- ---- a cell stands at its own key
 
 flag_key : (fs : List Flag) (n : ℕ) (c : Cell) (o : Option Flag) → flag_of fs n ≡ o → flag_cell o ≡ Some c → cell_key c ≡ key.Flag n
 flag_key fs n c None e is = absurd (let z : None ≡ Some c = is in cc)
-flag_key fs n c (Some f) e is = ap cell_key (sym (some_same (cell.Flag f) c is)) ∙ ap key.Flag (server_of fs n f e)
+flag_key fs n c (Some f) e is = ap cell_key (sym (some_same (cell.Flag f) c is)) ∙ ap key.Flag (flag_server fs n f e)
 
 entry_key : (b : Store) (f g : FileId) → AreByChild b.names → (c : Cell) (sure : Bool) (o : Option Entry) → entry_at b.names f g ≡ o → entry_cell o sure ≡ Some c → cell_key c ≡ key.Entry g
 entry_key b f g own c sure None e is = absurd (let z : None ≡ Some c = is in cc)
@@ -99,7 +100,7 @@ module _ (along : Along) (n s : ℕ) (a b : Store) (heard : Saying Slot Cell) (s
     cell_sent q c g tagged is =
         let at : Slot = slot f x.birth e.peer e.birth q in
         let own : q ≡ cell_key c = sym (own_key b k.names.children f q c is) in
-        let P : Key → Type 0 = λ z. May (cells_in along) s a b heard (CellFor b.names.server (slot f x.birth e.peer e.birth z) g (plain c)) in
+        let P : Key → Type 0 = λ z. May (cells_in along) s a b heard (CellFor (server_of b) (slot f x.birth e.peer e.birth z) g (plain c)) in
         let Q : ℕ → Type 0 = λ z. May (cells_in along) s a b heard (CellFor z at g (plain c)) in
         let stands : tag (cells_in along) b at ≡ Some g =
         ap (λ (o : Option Replica). tag_on (option_map (seen b f) o) at) here ∙ tag_on_edge x.edges e q (Some g) edge tagged in
@@ -110,7 +111,7 @@ module _ (along : Along) (n s : ℕ) (a b : Store) (heard : Saying Slot Cell) (s
     pub harbinger_sent : (q : Key) (v : VersionValue) (g : ℕ) → tag_in e.keys q ≡ Some g → cell_at b f q ≡ Some (cell.Version v)
         → Told (message.Harbinger BothEnds g v.head)
     harbinger_sent q v g tagged is =
-        harbinger_says (λ z. May (cells_in along) s a b heard z) b.names.server e.peer BothEnds v.head g
+        harbinger_says (λ z. May (cells_in along) s a b heard z) (server_of b) e.peer BothEnds v.head g
         (cell_sent q (cell.Version v) g tagged is) tt
 
     -- so whatever tells of a cell may be

@@ -15,6 +15,7 @@ use Rattle.pg_cells.proofs.pg_house.Keys.{rules_keys}
 use Rattle.pg_cells.specs.pg_house.Work.{state_of}
 use Rattle.pg_cells.specs.pg_store.declared.store.Store.{Store}
 use Rattle.pg_cells.specs.pg_store.Births.{birth_of}
+use Rattle.pg_cells.specs.pg_store.Seen.{removed_of, server_of}
 use Rattle.pg_cells.specs.pg_store.Store.{is_newer_flag, with_names}
 use Rattle.pg_cells.specs.pg_pieces.Golds.{is_goldless, is_goldless_held}
 use Rattle.pg_cells.specs.pg_pieces.Making.{own_next, raise_flag}
@@ -94,7 +95,7 @@ goldless_by removed server birth (Some x) h = (x.own, refl)
 pub goldless_own : (a : Store) (f : FileId) → is_goldless a f ≡ true
     → (own : Attributes) × (own_at a.names f ≡ Some own)
 goldless_own a f h =
-    goldless_by a.names.removed a.names.server (birth_of a f) (known a.names f) h
+    goldless_by (removed_of a) (server_of a) (birth_of a f) (known a.names f) h
 
 pub raised_steps : (a : Store) (f : FileId) (work : Work) → is_goldless a f ≡ true
     → Steps standing a (raise_flag a f work).store

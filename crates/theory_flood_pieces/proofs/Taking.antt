@@ -30,7 +30,7 @@ use Rattle.theory_flood_pieces.specs.Seen.{standing}
 use Rattle.theory_flood_pieces.specs.UpTo.{IsFlagKnownBy, IsPlaceUpTo, IsUpTo}
 use Rattle.theory_flood_pieces.specs.Whole.{AreByChild}
 use Rattle.theory_flood_pieces.proofs.Choices.{decided}
-use Rattle.theory_flood_pieces.proofs.Flags.{flag_there, known_there, newer_of_both, old_entry, old_known, server_of}
+use Rattle.theory_flood_pieces.proofs.Flags.{flag_server, flag_there, known_there, newer_of_both, old_entry, old_known}
 use Rattle.theory_flood_pieces.proofs.Growth.{SameNames, entry_grows, entry_told, flag_grows, flag_told, names_further, place_grows, place_told, same_grow, same_told, told_further}
 use Rattle.theory_flood_pieces.proofs.Touching.{IsTouchedBy, none_touched, one_touched, touched_behind, touched_steps}
 
@@ -186,7 +186,7 @@ module _ (a : Store) (file : FileId) (mine : Attributes) (held_own : own_at a.na
       holds =
           let before : flags.is_new (flag_of mine.flags flag.server) flag ≡ false = ap (λ o. is_flag_new o flag) (sym held_own) ∙ old in
           flag_held a file flag (flag_of mine.flags flag.server) (ap (λ (o : Attributes). flag_of o.flags flag.server) mine_is)
-          (old_known (flag_of mine.flags flag.server) flag (λ f h. server_of mine.flags flag.server f h) before);
+          (old_known (flag_of mine.flags flag.server) flag (λ f h. flag_server mine.flags flag.server f h) before);
     }
 
     -- A FLAG IS TAKEN

@@ -27,6 +27,7 @@ use Rattle.pg_cells.specs.pg_replica.Replicas.{ByFile, put_replica, replica_in, 
 use Rattle.pg_cells.specs.pg_store.declared.store.Store.{Store}
 use Rattle.pg_cells.specs.pg_store.Links.{is_linked, is_new_link, link, put_link, unlink}
 use Rattle.pg_cells.specs.pg_store.Links as links
+use Rattle.pg_cells.specs.pg_store.Seen.{server_of}
 use Rattle.pg_cells.specs.pg_store.Store.{acknowledge, is_new_version, is_newer_entry, is_newer_flag, is_newer_place, put_entry, put_flag, put_place, put_version, replica_at, take_entry, take_flag, take_place, take_version, touch, with_names, write}
 use Rattle.pg_cells.specs.pg_store.Together.{AreTogether}
 use Rattle.pg_cells.proofs.pg_store.Pairs.{acknowledge_as_before, entry_as_before, flag_as_before, link_as_before, place_as_before, together_as_before, touch_as_before, unlink_as_before, version_as_before, write_as_before}
@@ -88,7 +89,7 @@ module _ (n s : ℕ) (rs : ByFile) (file : FileId) (k : AreGraphs n s rs) where
 
 -- ---- a server
 
-pub whole_by : (n s : ℕ) (a b : Store) → IsWhole n s a → b.names.server ≡ a.names.server → b.servers ≡ a.servers → AreOrderly b.names → AreGraphs n s b.replicas → AreTogether b → PatchesAreForDirs b
+pub whole_by : (n s : ℕ) (a b : Store) → IsWhole n s a → server_of b ≡ server_of a → b.servers ≡ a.servers → AreOrderly b.names → AreGraphs n s b.replicas → AreTogether b → PatchesAreForDirs b
     → IsWhole n s b
 whole_by n s a b k server servers own graphs both patches = record {
   server = server ∙ k.server;
@@ -111,7 +112,7 @@ module _ (n s : ℕ) (a : Store) (k : IsWhole n s a) where
 
   -- ---- names change, and just the same is held
 
-  pub whole_names : (other : NamesValue) → other.server ≡ a.names.server → AreOrderly other → ((f : FileId) → is_held other f ≡ is_held a.names f) → IsWhole n s (with_names a other)
+  pub whole_names : (other : NamesValue) → other.server ≡ server_of a → AreOrderly other → ((f : FileId) → is_held other f ≡ is_held a.names f) → IsWhole n s (with_names a other)
   whole_names other server own held =
       whole_by n s a (with_names a other) k server refl own (graphs_of n s a k) (λ f. k.together f ∙ sym (held f)) k.patches
 

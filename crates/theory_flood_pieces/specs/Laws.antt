@@ -32,6 +32,7 @@ use Rattle.pg_cells.specs.pg_store.Births.{is_over}
 use Rattle.pg_cells.specs.pg_store.Together.{BirthsMove, birth_at}
 use Rattle.pg_cells.specs.pg_store.Cells.{cell_at}
 use Rattle.pg_cells.specs.pg_store.Links.{keys, link, unlink}
+use Rattle.pg_cells.specs.pg_store.Seen.{server_of}
 use Rattle.pg_cells.specs.pg_store.Store.{acknowledge, content_of, is_held, new_store, take_entry, take_flag, take_place, take_version, with_names, write}
 use Rattle.pg_cells.specs.pg_store.Views.{enter}
 use Rattle.pg_cells.specs.pg_pieces.Done.{link_of}
@@ -105,7 +106,7 @@ KeysAreTouched = (a : Store) (ts : List Touched) → StepsOn a (touch_all a ts)
 -- names grow, and the keys that tell of it are touched behind that, or before
 abbrev pub NamesAreTold : Type 0
 NamesAreTold = (a : Store) (names : NamesValue) (ts : List Touched)
-    → names.server ≡ a.names.server → AreNamesUpTo a.names names → IsToldBy ts a.names names
+    → names.server ≡ server_of a → AreNamesUpTo a.names names → IsToldBy ts a.names names
     → StepsOn a (touch_all (with_names a names) ts)
     × StepsOn a (with_names (touch_all a ts) names)
 

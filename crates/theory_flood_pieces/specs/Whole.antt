@@ -14,6 +14,7 @@ use Rattle.pg_cells.specs.pg_intent.declared.intent.Intent.TheVariants as intent
 use Rattle.pg_cells.specs.pg_names.Names.{NamesValue, cell_at, is_dir}
 use Rattle.pg_cells.specs.pg_replica.declared.replica.Replica.{Replica}
 use Rattle.pg_cells.specs.pg_store.declared.store.Store.{Store}
+use Rattle.pg_cells.specs.pg_store.Seen.{server_of}
 use Rattle.pg_cells.specs.pg_store.Together.{AreTogether}
 
 -- another server than s of n
@@ -52,7 +53,7 @@ PatchesAreForDirs a = (dir : FileId) (e : Entry) (target : ℕ)
 
 -- server s of n
 pub record IsWhole (n s : ℕ) (a : Store) : Type 0 where
-  pub server : a.names.server ≡ s
+  pub server : server_of a ≡ s
   pub servers : a.servers ≡ n
   pub names : AreOrderly a.names
   pub replicas : All (λ (r : FileId × Replica). AreEdges n s r.1.edges) a.replicas

@@ -1,6 +1,6 @@
 use Rattle.std.proofs.Common.{inl, inr}
-use Rattle.pangaea.proofs.Ends.{answers, does, fronts, node_ends, safe, writes}
-use Rattle.pangaea.proofs.Heeded.{heeded, left, replays, silent}
+use Rattle.pg_program.proofs.Ends.{answers, does, fronts, node_ends, safe, writes}
+use Rattle.pg_program.proofs.Heeded.{heeded, left, replays, silent}
 use Rattle.pg_command.specs.declared.command.Command.TheVariants.{Make, Soak, Help}
 use Rattle.pangaea.proofs.command.run.Goals as goal
 

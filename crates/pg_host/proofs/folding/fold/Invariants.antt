@@ -1,5 +1,5 @@
 use Rattle.std.proofs.Common.{◌≡◌, false}
-use Rattle.law_lengths.specs.law_spelled.Stores.{FitsStore}
+use Rattle.pg_node_input.specs.law_lengths.law_spelled.Stores.{FitsStore}
 use Rattle.pg_host.specs.Starts.{IsFoldedTo}
 use Rattle.pg_host.proofs.folding.fold.Given as goal
 

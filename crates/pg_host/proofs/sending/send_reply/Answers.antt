@@ -1,6 +1,6 @@
 use Rattle.std.proofs.Common.{Option, IfSome, subst}
 use Rattle.pg_call.specs.declared.reply.Reply.{Reply}
-use Rattle.law_lengths.specs.Packets.{IsToldWell}
+use Rattle.pg_node_input.specs.law_lengths.Packets.{IsToldWell}
 use Rattle.pg_host.proofs.Stepped.{reply_spelled}
 use Rattle.pg_host.proofs.sending.send_reply.Goals as goal
 

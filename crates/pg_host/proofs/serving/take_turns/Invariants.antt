@@ -1,5 +1,5 @@
 use Rattle.std.proofs.Common.{◌≡◌, ◌≤◌, ◌<◌, false, IsSome}
-use Rattle.law_lengths.specs.law_spelled.Stores.{FitsStore}
+use Rattle.pg_node_input.specs.law_lengths.law_spelled.Stores.{FitsStore}
 use Rattle.pg_host.specs.Host.{scene}
 use Rattle.pg_host.specs.Savings.{GoesOn}
 use Rattle.pg_host.proofs.serving.take_turns.Given as goal

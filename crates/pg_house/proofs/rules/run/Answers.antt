@@ -33,7 +33,7 @@ break_all-requires-clause-few c =
     let two : State = state_of c.return_all.new.names c.return_all.new.work in
     let r : two ≡ repeated (length ds) (return_first m ds) one = c.in_ok-return_all.ensures.back ∙ ap (λ es. repeated (length es) (return_first m es) one) d1 in
     let d2 : directories two.names ≡ ds = ap (λ (u : State). directories u.names) r ∙ returns_dirs m ds (length ds) one ∙ d1 in
-    let few : length ds ≤ 2 ^ 40 = c.requires.few in
+    let few : length ds < 2 ^ 60 = c.requires.few in
     subst (λ (es : List FileId). length es < 2 ^ 62) (sym d2) (omega arith)
 
 pub break_all-requires-clause-last : goal.break_all-requires-clause-last

@@ -1,6 +1,6 @@
 use Rattle.std.proofs.Common.{◌∙◌}
 use Rattle.pg_store.proofs.Marked.{whole_fresh}
-use Rattle.pg_store.proofs.Relisted.{listed_all}
+use Rattle.pg_store.proofs.AllListed.{listed_all}
 use Rattle.pg_store.proofs.store.Store.walkers.Goals as goal
 
 pub returns : goal.returns

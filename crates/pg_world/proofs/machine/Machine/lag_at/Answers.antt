@@ -1,7 +1,7 @@
 use Rattle.std.proofs.Common.{◌≡◌, None, Some, length, true, sym, ap, ◌∙◌, List, ℕ}
 use Rattle.pg_event.specs.declared.quiet.Cause.TheVariants.{View}
 use Rattle.pg_store.specs.declared.store.Store.{Store}
-use Rattle.pg_store.specs.Servers.{view_of}
+use Rattle.pg_store.specs.Seen.{view_of}
 use Rattle.pg_run.specs.Quiet.{lag}
 use Rattle.pg_world.proofs.Standing.{live_is_server}
 use Rattle.pg_world.proofs.Waiting.{dead_gives, lags, lags_not, live_gives}

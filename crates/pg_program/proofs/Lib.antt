@@ -1,0 +1,5 @@
+pub mod Asked
+pub mod Ends
+pub mod Heeded
+pub mod Idle
+pub mod Nodes

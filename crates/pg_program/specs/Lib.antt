@@ -1,0 +1,5 @@
+pub mod Ending
+pub mod Seen
+pub mod Written
+pub mod Outside
+pub mod Acts
