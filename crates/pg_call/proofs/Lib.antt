@@ -1,3 +1,4 @@
 pub mod CallSpelling
 pub mod CallTable
+pub mod KindWords
 pub mod RowWords

@@ -2,21 +2,12 @@
 use Rattle.std.specs.Prelude.{ℕ, ◌<◌, ◌^◌, List, [], ◌∷◌, decimal, codes}
 use Rattle.pg_base.specs.Id.{spelling, Fits}
 use Rattle.pg_base.specs.StampText.{stamp_text}
-use Rattle.pg_call.specs.declared.refusal.IntentKind.{IntentKind}
-use Rattle.pg_call.specs.declared.refusal.IntentKind.TheVariants as intent
 use Rattle.pg_call.specs.declared.refusal.Unsettled.{Unsettled}
 use Rattle.pg_call.specs.declared.refusal.Unsettled.TheVariants as unsettled
 use Rattle.pg_call.specs.declared.refusal.Refusal.{Refusal}
 use Rattle.pg_call.specs.declared.refusal.Refusal.TheVariants as refusal
+use Rattle.pg_intent.specs.Kind.{intent_word}
 use Rattle.pg_words.specs.StampWord.{IsStamp}
-
-abbrev pub intent_word : IntentKind → List ℕ
-intent_word intent.Bye = codes "Bye"
-intent_word intent.Seek = codes "Seek"
-intent_word intent.Fill = codes "Fill"
-intent_word intent.Patch = codes "Patch"
-intent_word intent.Confirm = codes "Confirm"
-intent_word intent.Leave = codes "Leave"
 
 abbrev pub unsettled_word : Unsettled → List ℕ
 unsettled_word (unsettled.Intent kind) = intent_word kind

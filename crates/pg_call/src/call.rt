@@ -120,6 +120,27 @@ pub enum CallKind {
     Stop,
 }
 
+/// All kinds of calls.
+const KINDS: [CallKind; 17] = [
+    CallKind::Mkdir,
+    CallKind::Create,
+    CallKind::Write,
+    CallKind::Cut,
+    CallKind::Read,
+    CallKind::Fresh,
+    CallKind::Ls,
+    CallKind::Stat,
+    CallKind::Rename,
+    CallKind::Unlink,
+    CallKind::Rmdir,
+    CallKind::Forget,
+    CallKind::Demote,
+    CallKind::Drop,
+    CallKind::Giveup,
+    CallKind::Status,
+    CallKind::Stop,
+];
+
 impl Target {
     /// Copies the target. A path's text is shared.
     pub fn copy(&self) -> Result<Target, AllocError>
@@ -226,27 +247,35 @@ impl CallKind {
         ensures found { IfSome result (λ k. word.now ≡ kind_word k) }
         ensures none { IfNone result ((k : CallKind) → word.now ≢ kind_word k) }
     {
-        let kind = match word {
-            b"mkdir" => CallKind::Mkdir,
-            b"create" => CallKind::Create,
-            b"write" => CallKind::Write,
-            b"cut" => CallKind::Cut,
-            b"read" => CallKind::Read,
-            b"fresh" => CallKind::Fresh,
-            b"ls" => CallKind::Ls,
-            b"stat" => CallKind::Stat,
-            b"rename" => CallKind::Rename,
-            b"unlink" => CallKind::Unlink,
-            b"rmdir" => CallKind::Rmdir,
-            b"forget" => CallKind::Forget,
-            b"demote" => CallKind::Demote,
-            b"drop" => CallKind::Drop,
-            b"giveup" => CallKind::Giveup,
-            b"status" => CallKind::Status,
-            b"stop" => CallKind::Stop,
-            _ => return None,
-        };
-        Some(kind)
+        KINDS
+            .iter()
+            .copied()
+            .find(|kind| kind.word().as_bytes() == word)
+    }
+
+    /// The word that names the call.
+    fn word(self) -> &'static str
+        ensures { result.now ≡ kind_word self }
+    {
+        match self {
+            CallKind::Mkdir => "mkdir",
+            CallKind::Create => "create",
+            CallKind::Write => "write",
+            CallKind::Cut => "cut",
+            CallKind::Read => "read",
+            CallKind::Fresh => "fresh",
+            CallKind::Ls => "ls",
+            CallKind::Stat => "stat",
+            CallKind::Rename => "rename",
+            CallKind::Unlink => "unlink",
+            CallKind::Rmdir => "rmdir",
+            CallKind::Forget => "forget",
+            CallKind::Demote => "demote",
+            CallKind::Drop => "drop",
+            CallKind::Giveup => "giveup",
+            CallKind::Status => "status",
+            CallKind::Stop => "stop",
+        }
     }
 
     /// How many words stand behind its own.
@@ -277,25 +306,7 @@ impl fmt::Display for CallKind {
     ghost output = { λ k. Some (kind_word k) };
 
     fn fmt<W: fmt::Write>(&self, f: &mut fmt::Formatter<W>) -> fmt::Result {
-        f.write_str(match self {
-            CallKind::Mkdir => "mkdir",
-            CallKind::Create => "create",
-            CallKind::Write => "write",
-            CallKind::Cut => "cut",
-            CallKind::Read => "read",
-            CallKind::Fresh => "fresh",
-            CallKind::Ls => "ls",
-            CallKind::Stat => "stat",
-            CallKind::Rename => "rename",
-            CallKind::Unlink => "unlink",
-            CallKind::Rmdir => "rmdir",
-            CallKind::Forget => "forget",
-            CallKind::Demote => "demote",
-            CallKind::Drop => "drop",
-            CallKind::Giveup => "giveup",
-            CallKind::Status => "status",
-            CallKind::Stop => "stop",
-        })
+        f.write_str(self.word())
     }
 }
 

@@ -37,6 +37,7 @@ pub use error::WordsError;
 pub use fault::Fault;
 pub use field::{count_of, have_bytes, id_of, parse_u32, parse_u64};
 pub use limits::{MOST_BYTES, Payload, ReadCount};
+pub use pg_intent::{IntentKind, read_intent_kind};
 pub use reading::{arguments_of, one_call_spelling, read_call};
-pub use refusal::{IntentKind, Refusal, RefusalKind, Unsettled, read_intent_kind};
+pub use refusal::{Refusal, RefusalKind, Unsettled};
 pub use reply::{Counts, Reply, ReplyKind, Stat};

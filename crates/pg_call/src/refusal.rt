@@ -1,28 +1,8 @@
 //! Why a server refuses what a client asks for.
 
-ghost use Rattle.std.specs.Prelude.{◌≡◌, IfSome, IfNone};
-ghost use Rattle.pg_call.specs.Refusal.{intent_word};
-ghost use Rattle.pg_call.specs.declared.refusal.IntentKind.{IntentKind};
-
 use pg_base::{FileId, NodeId, Stamp};
+use pg_intent::IntentKind;
 use std::fmt;
-
-/// What a server intends until others have answered.
-#[derive(Clone, Copy, Debug, PartialEq, Eq)]
-pub enum IntentKind {
-    /// To tell a peer that the replica is gone.
-    Bye,
-    /// To find a live gold replica.
-    Seek,
-    /// To get a replica filled.
-    Fill,
-    /// To carry a newer place to a replica of a directory.
-    Patch,
-    /// To ask a holder of a child for its place.
-    Confirm,
-    /// To ask a gold peer for leave to drop.
-    Leave,
-}
 
 /// What keeps a replica from being dropped: an intention, or a cell that is not acknowledged.
 #[derive(Clone, Copy, Debug, PartialEq, Eq)]
@@ -109,24 +89,6 @@ pub enum RefusalKind {
     ManyActors,
 }
 
-impl fmt::Display for IntentKind {
-    ghost use Rattle.std.specs.Prelude.{Some};
-    ghost use Rattle.pg_call.specs.Refusal.{intent_word};
-
-    ghost output = { λ k. Some (intent_word k) };
-
-    fn fmt<W: fmt::Write>(&self, f: &mut fmt::Formatter<W>) -> fmt::Result {
-        f.write_str(match self {
-            IntentKind::Bye => "Bye",
-            IntentKind::Seek => "Seek",
-            IntentKind::Fill => "Fill",
-            IntentKind::Patch => "Patch",
-            IntentKind::Confirm => "Confirm",
-            IntentKind::Leave => "Leave",
-        })
-    }
-}
-
 impl fmt::Display for Unsettled {
     ghost use Rattle.std.specs.Prelude.{Some};
     ghost use Rattle.pg_call.specs.Refusal.{unsettled_word};
@@ -173,21 +135,5 @@ impl fmt::Display for Refusal {
             Refusal::WrongView(view) => write!(f, "refused 19 WrongView {view}"),
             Refusal::ManyActors => f.write_str("refused 20 ManyActors"),
         }
-    }
-}
-
-/// The kind of intention that the word names.
-pub fn read_intent_kind(word: &[u8]) -> Option<IntentKind>
-    ensures found { IfSome result (λ k. word.now ≡ intent_word k) }
-    ensures none { IfNone result ((k : IntentKind) → word.now ≡ intent_word k → ⊥) }
-{
-    match word {
-        b"Bye" => Some(IntentKind::Bye),
-        b"Seek" => Some(IntentKind::Seek),
-        b"Fill" => Some(IntentKind::Fill),
-        b"Patch" => Some(IntentKind::Patch),
-        b"Confirm" => Some(IntentKind::Confirm),
-        b"Leave" => Some(IntentKind::Leave),
-        _ => None,
     }
 }

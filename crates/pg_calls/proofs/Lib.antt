@@ -19,8 +19,8 @@ pub use Rattle.pg_cells.proofs.pg_msg as pg_msg
 pub use Rattle.pg_cells.proofs.pg_names as pg_names
 pub use Rattle.pg_cells.proofs.pg_replica as pg_replica
 pub use Rattle.pg_cells.proofs.pg_store as pg_store
-pub mod pg_pieces
-pub mod pg_cells
-pub mod pg_graph
-pub mod pg_intentions
-pub mod pg_checks
+pub use Rattle.pg_cells.proofs.pg_pieces as pg_pieces
+pub use Rattle.pg_cells.proofs as pg_cells
+pub use Rattle.pg_intentions.proofs.pg_graph as pg_graph
+pub use Rattle.pg_intentions.proofs as pg_intentions
+pub use Rattle.pg_checks.proofs as pg_checks

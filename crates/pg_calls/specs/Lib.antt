@@ -16,9 +16,9 @@ pub use Rattle.pg_cells.specs.pg_msg as pg_msg
 pub use Rattle.pg_cells.specs.pg_names as pg_names
 pub use Rattle.pg_cells.specs.pg_replica as pg_replica
 pub use Rattle.pg_cells.specs.pg_store as pg_store
-pub mod pg_pieces
-pub mod pg_cells
-pub mod pg_graph
-pub mod pg_repair
-pub mod pg_intentions
-pub mod pg_checks
+pub use Rattle.pg_cells.specs.pg_pieces as pg_pieces
+pub use Rattle.pg_cells.specs as pg_cells
+pub use Rattle.pg_intentions.specs.pg_graph as pg_graph
+pub use Rattle.pg_intentions.specs.pg_repair as pg_repair
+pub use Rattle.pg_intentions.specs as pg_intentions
+pub use Rattle.pg_checks.specs as pg_checks

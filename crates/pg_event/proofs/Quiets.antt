@@ -8,9 +8,9 @@ use Rattle.pg_base.specs.Id.{spelling}
 use Rattle.pg_base.specs.declared.id.FileId.{FileId}
 use Rattle.pg_base.specs.declared.id.Kind.{Kind}
 use Rattle.pg_base.specs.declared.id.Kind.TheVariants.{Dir, File}
-use Rattle.pg_call.specs.Refusal.{intent_word}
-use Rattle.pg_call.specs.declared.refusal.IntentKind.{IntentKind}
-use Rattle.pg_call.specs.declared.refusal.IntentKind.TheVariants as kind
+use Rattle.pg_call.specs.pg_intent.Kind.{intent_word}
+use Rattle.pg_call.specs.pg_intent.declared.kind.IntentKind.{IntentKind}
+use Rattle.pg_call.specs.pg_intent.declared.kind.IntentKind.TheVariants as kind
 use Rattle.pg_edges.specs.declared.key.Key.{Key}
 use Rattle.pg_event.specs.Quiet.{child_word, intent_words, key_words, owing_words, cause_words, quiet_words, IsChild, IsOwedIntent, IsOwedKey, IsOwing, IsCause, IsAnswer}
 use Rattle.pg_event.specs.declared.quiet.OwedIntent.{OwedIntent}

@@ -3,7 +3,7 @@ use Rattle.std.specs.Prelude.{ℕ, ◌<◌, ◌^◌, List, [], ◌∷◌, Option
 use Rattle.std.specs.List.{join_with_byte}
 use Rattle.pg_base.specs.Id.{spelling, Fits}
 use Rattle.pg_base.specs.declared.id.FileId.{FileId}
-use Rattle.pg_call.specs.Refusal.{intent_word}
+use Rattle.pg_call.specs.pg_intent.Kind.{intent_word}
 use Rattle.pg_msg.specs.Text.{key_text, summary_words, IsKey, IsSummary}
 use Rattle.pg_event.specs.declared.quiet.OwedIntent.{OwedIntent}
 use Rattle.pg_event.specs.declared.quiet.OwedKey.{OwedKey}

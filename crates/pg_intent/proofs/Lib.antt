@@ -1,3 +1,4 @@
+pub mod KindWords
 pub mod SameKey
 pub mod Kept
 pub mod Ending

@@ -2,8 +2,8 @@
 use Rattle.std.specs.Prelude.{ℕ, Bool, ◌||◌, false, Option, None, Some}
 use Rattle.pg_base.specs.declared.id.FileId.{FileId}
 use Rattle.pg_base.specs.Id.{is_same_file}
-use Rattle.pg_call.specs.declared.refusal.IntentKind.{IntentKind}
-use Rattle.pg_call.specs.declared.refusal.IntentKind.TheVariants as kind
+use Rattle.pg_intent.specs.declared.kind.IntentKind.{IntentKind}
+use Rattle.pg_intent.specs.declared.kind.IntentKind.TheVariants as kind
 use Rattle.pg_entries.specs.Entry.{joined}
 use Rattle.pg_intent.specs.declared.key.IntentKey.{IntentKey}
 use Rattle.pg_intent.specs.declared.key.IntentKey.TheVariants as key

@@ -1,3 +1,4 @@
+pub mod Kind
 pub mod Key
 pub mod Intent
 pub mod Intents

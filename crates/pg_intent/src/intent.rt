@@ -4,8 +4,8 @@ ghost use Rattle.std.specs.Prelude.{◌≡◌, IfOk, OnErr, OnOk};
 ghost use Rattle.pg_intent.specs.Intent.{aimed_at, child_of, file_of, is_about, key_of, kind_of, rejoined, target_of};
 
 use crate::key::IntentKey;
+use crate::kind::IntentKind;
 use pg_base::{FileId, NodeId};
-use pg_call::IntentKind;
 use pg_entries::Entry;
 use std::alloc::AllocError;
 

@@ -7,3 +7,6 @@ pub mod Held
 pub mod Lacking
 pub mod OnePrinted
 pub mod PrintedWords
+pub mod VerbWords
+pub mod ReplyKinds
+pub mod Reasons

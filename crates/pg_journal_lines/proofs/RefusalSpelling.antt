@@ -6,9 +6,10 @@ use Rattle.pg_base.specs.declared.id.FileId.{FileId}
 use Rattle.pg_base.specs.declared.stamp.Stamp.{Stamp}
 use Rattle.pg_call.proofs.CallTable.{byte_at}
 use Rattle.pg_journal_lines.specs.Reason.{AreValues, reason_name, reason_number, reason_of, value_words}
-use Rattle.pg_call.specs.Refusal.{IsRefusal, intent_word, refusal_words, unsettled_word}
-use Rattle.pg_call.specs.declared.refusal.IntentKind.{IntentKind}
-use Rattle.pg_call.specs.declared.refusal.IntentKind.TheVariants as intent
+use Rattle.pg_call.specs.Refusal.{IsRefusal, refusal_words, unsettled_word}
+use Rattle.pg_call.specs.pg_intent.Kind.{intent_word}
+use Rattle.pg_call.specs.pg_intent.declared.kind.IntentKind.{IntentKind}
+use Rattle.pg_call.specs.pg_intent.declared.kind.IntentKind.TheVariants as intent
 use Rattle.pg_call.specs.declared.refusal.RefusalKind.{RefusalKind}
 use Rattle.pg_call.specs.declared.refusal.RefusalKind.TheVariants as reason
 use Rattle.pg_call.specs.declared.refusal.Refusal.{Refusal}

@@ -6,7 +6,7 @@ use Rattle.std.proofs.lemmas.List.Elements.{All-append, All-cons, All-weaker}
 use Rattle.pg_base.specs.Id.{spelling}
 use Rattle.pg_call.specs.Refusal.{IsRefusal, refusal_words, unsettled_word}
 use Rattle.pg_call.specs.Reply.{IsReply, IsRow, IsTickReply, reply_words, row_word}
-use Rattle.pg_call.specs.declared.refusal.IntentKind.TheVariants as intent
+use Rattle.pg_call.specs.pg_intent.declared.kind.IntentKind.TheVariants as intent
 use Rattle.pg_call.specs.declared.refusal.Refusal.{Refusal}
 use Rattle.pg_call.specs.declared.refusal.Refusal.TheVariants as refusal
 use Rattle.pg_call.specs.declared.refusal.Unsettled.{Unsettled}

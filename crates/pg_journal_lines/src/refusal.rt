@@ -1,8 +1,9 @@
 //! Refusals, from words.
 
-ghost use Rattle.std.specs.Prelude.{◌≡◌, ◌∷◌, [], codes, decimal, map, IfSome, IfNone};
-ghost use Rattle.pg_call.specs.Refusal.{IsRefusal, intent_word, refusal_words, unsettled_word};
-ghost use Rattle.pg_call.specs.declared.refusal.IntentKind.{IntentKind};
+ghost use Rattle.std.specs.Prelude.{◌≡◌, ◌↔◌, ◌∷◌, [], codes, decimal, map, IfSome, IfNone, IsTrue};
+ghost use Rattle.pg_call.specs.Refusal.{IsRefusal, refusal_words, unsettled_word};
+ghost use Rattle.pg_call.specs.pg_intent.Kind.{intent_word};
+ghost use Rattle.pg_call.specs.pg_intent.declared.kind.IntentKind.{IntentKind};
 ghost use Rattle.pg_call.specs.declared.refusal.Refusal.{Refusal};
 ghost use Rattle.pg_call.specs.declared.refusal.Unsettled.{Unsettled};
 ghost use Rattle.pg_journal_lines.specs.Reason.{AreValues, IsComponentNumber, reason_name, reason_number, reason_of, value_words};
@@ -14,6 +15,93 @@ use pg_base::number_u32;
 use pg_call::{Refusal, RefusalKind, Unsettled, read_intent_kind};
 use pg_words::{first_word, is_same, read_id};
 
+/// All kinds of refusals.
+const REASONS: [RefusalKind; 20] = [
+    RefusalKind::BadPath,
+    RefusalKind::ClockEnd,
+    RefusalKind::NotYet,
+    RefusalKind::NoName,
+    RefusalKind::NotDir,
+    RefusalKind::IsDir,
+    RefusalKind::Root,
+    RefusalKind::Exists,
+    RefusalKind::DirFull,
+    RefusalKind::NotEmpty,
+    RefusalKind::Loop,
+    RefusalKind::TooLong,
+    RefusalKind::Behind,
+    RefusalKind::IsGold,
+    RefusalKind::LastGold,
+    RefusalKind::HasChild,
+    RefusalKind::Unsettled,
+    RefusalKind::Held,
+    RefusalKind::WrongView,
+    RefusalKind::ManyActors,
+];
+
+/// The number of the kind.
+fn number_of(kind: RefusalKind) -> &'static str
+    ensures { result.now ≡ reason_number kind }
+{
+    match kind {
+        RefusalKind::BadPath => "1",
+        RefusalKind::ClockEnd => "2",
+        RefusalKind::NotYet => "3",
+        RefusalKind::NoName => "4",
+        RefusalKind::NotDir => "5",
+        RefusalKind::IsDir => "6",
+        RefusalKind::Root => "7",
+        RefusalKind::Exists => "8",
+        RefusalKind::DirFull => "9",
+        RefusalKind::NotEmpty => "10",
+        RefusalKind::Loop => "11",
+        RefusalKind::TooLong => "12",
+        RefusalKind::Behind => "13",
+        RefusalKind::IsGold => "14",
+        RefusalKind::LastGold => "15",
+        RefusalKind::HasChild => "16",
+        RefusalKind::Unsettled => "17",
+        RefusalKind::Held => "18",
+        RefusalKind::WrongView => "19",
+        RefusalKind::ManyActors => "20",
+    }
+}
+
+/// The name of the kind.
+fn name_of(kind: RefusalKind) -> &'static str
+    ensures { result.now ≡ reason_name kind }
+{
+    match kind {
+        RefusalKind::BadPath => "BadPath",
+        RefusalKind::ClockEnd => "ClockEnd",
+        RefusalKind::NotYet => "NotYet",
+        RefusalKind::NoName => "NoName",
+        RefusalKind::NotDir => "NotDir",
+        RefusalKind::IsDir => "IsDir",
+        RefusalKind::Root => "Root",
+        RefusalKind::Exists => "Exists",
+        RefusalKind::DirFull => "DirFull",
+        RefusalKind::NotEmpty => "NotEmpty",
+        RefusalKind::Loop => "Loop",
+        RefusalKind::TooLong => "TooLong",
+        RefusalKind::Behind => "Behind",
+        RefusalKind::IsGold => "IsGold",
+        RefusalKind::LastGold => "LastGold",
+        RefusalKind::HasChild => "HasChild",
+        RefusalKind::Unsettled => "Unsettled",
+        RefusalKind::Held => "Held",
+        RefusalKind::WrongView => "WrongView",
+        RefusalKind::ManyActors => "ManyActors",
+    }
+}
+
+/// Whether the kind has this number and this name.
+fn is_reason(kind: RefusalKind, number: &[u8], name: &[u8]) -> bool
+    ensures { IsTrue result ↔ ((number.now ≡ reason_number kind) × (name.now ≡ reason_name kind)) }
+{
+    number_of(kind).as_bytes() == number && name_of(kind).as_bytes() == name
+}
+
 /// The kind of refusals that has this number and this name.
 fn read_reason(number: &[u8], name: &[u8]) -> Option<RefusalKind>
     ensures found { IfSome result (λ k. (number.now ≡ reason_number k)
@@ -21,30 +109,10 @@ fn read_reason(number: &[u8], name: &[u8]) -> Option<RefusalKind>
     ensures none { IfNone result ((k : RefusalKind) → number.now ≡ reason_number k
         → name.now ≡ reason_name k → ⊥) }
 {
-    let kind = match (number, name) {
-        (b"1", b"BadPath") => RefusalKind::BadPath,
-        (b"2", b"ClockEnd") => RefusalKind::ClockEnd,
-        (b"3", b"NotYet") => RefusalKind::NotYet,
-        (b"4", b"NoName") => RefusalKind::NoName,
-        (b"5", b"NotDir") => RefusalKind::NotDir,
-        (b"6", b"IsDir") => RefusalKind::IsDir,
-        (b"7", b"Root") => RefusalKind::Root,
-        (b"8", b"Exists") => RefusalKind::Exists,
-        (b"9", b"DirFull") => RefusalKind::DirFull,
-        (b"10", b"NotEmpty") => RefusalKind::NotEmpty,
-        (b"11", b"Loop") => RefusalKind::Loop,
-        (b"12", b"TooLong") => RefusalKind::TooLong,
-        (b"13", b"Behind") => RefusalKind::Behind,
-        (b"14", b"IsGold") => RefusalKind::IsGold,
-        (b"15", b"LastGold") => RefusalKind::LastGold,
-        (b"16", b"HasChild") => RefusalKind::HasChild,
-        (b"17", b"Unsettled") => RefusalKind::Unsettled,
-        (b"18", b"Held") => RefusalKind::Held,
-        (b"19", b"WrongView") => RefusalKind::WrongView,
-        (b"20", b"ManyActors") => RefusalKind::ManyActors,
-        _ => return None,
-    };
-    Some(kind)
+    REASONS
+        .iter()
+        .copied()
+        .find(|kind| is_reason(*kind, number, name))
 }
 
 /// What the word names that is not settled.

@@ -23,24 +23,45 @@ use std::alloc::{AllocError, Global};
 /// The most names that one reply has.
 const MOST_NAMES: usize = 100;
 
+/// All kinds of replies.
+const KINDS: [ReplyKind; 9] = [
+    ReplyKind::Done,
+    ReplyKind::Made,
+    ReplyKind::Wrote,
+    ReplyKind::Bytes,
+    ReplyKind::Names,
+    ReplyKind::Stat,
+    ReplyKind::Leaving,
+    ReplyKind::Status,
+    ReplyKind::Refused,
+];
+
+/// The word that replies of the kind begin with.
+fn first_word_of(kind: ReplyKind) -> &'static str
+    ensures { result.now ≡ head_word kind }
+{
+    match kind {
+        ReplyKind::Done => "done",
+        ReplyKind::Made => "made",
+        ReplyKind::Wrote => "wrote",
+        ReplyKind::Bytes => "bytes",
+        ReplyKind::Names => "names",
+        ReplyKind::Stat => "stat",
+        ReplyKind::Leaving => "leaving",
+        ReplyKind::Status => "status",
+        ReplyKind::Refused => "refused",
+    }
+}
+
 /// The kind of the replies that begin with the word.
 fn read_kind(word: &[u8]) -> Option<ReplyKind>
     ensures found { IfSome result (λ k. word.now ≡ head_word k) }
     ensures none { IfNone result ((k : ReplyKind) → word.now ≢ head_word k) }
 {
-    let kind = match word {
-        b"done" => ReplyKind::Done,
-        b"made" => ReplyKind::Made,
-        b"wrote" => ReplyKind::Wrote,
-        b"bytes" => ReplyKind::Bytes,
-        b"names" => ReplyKind::Names,
-        b"stat" => ReplyKind::Stat,
-        b"leaving" => ReplyKind::Leaving,
-        b"status" => ReplyKind::Status,
-        b"refused" => ReplyKind::Refused,
-        _ => return None,
-    };
-    Some(kind)
+    KINDS
+        .iter()
+        .copied()
+        .find(|kind| first_word_of(*kind).as_bytes() == word)
 }
 
 /// What stands before and after the last such byte.

@@ -20,26 +20,49 @@ pub(crate) enum Verb {
     Meter,
 }
 
+/// All verbs.
+const VERBS: [Verb; 11] = [
+    Verb::Event,
+    Verb::Call,
+    Verb::Tick,
+    Verb::Void,
+    Verb::Made,
+    Verb::Sent,
+    Verb::Asked(AskedAt::Settle),
+    Verb::Asked(AskedAt::Quiet),
+    Verb::Asked(AskedAt::End),
+    Verb::At,
+    Verb::Meter,
+];
+
 impl Verb {
     /// The verb that the word is.
     pub(crate) fn read(word: &[u8]) -> Option<Verb>
         ensures found { IfSome result (λ v. word.now ≡ verb_word v) }
         ensures none { IfNone result ((v : Verb) → word.now ≢ verb_word v) }
     {
-        let verb = match word {
-            b"event" => Verb::Event,
-            b"call" => Verb::Call,
-            b"tick" => Verb::Tick,
-            b"void" => Verb::Void,
-            b"made" => Verb::Made,
-            b"sent" => Verb::Sent,
-            b"settle" => Verb::Asked(AskedAt::Settle),
-            b"quiet" => Verb::Asked(AskedAt::Quiet),
-            b"end" => Verb::Asked(AskedAt::End),
-            b"at" => Verb::At,
-            b"meter" => Verb::Meter,
-            _ => return None,
-        };
-        Some(verb)
+        VERBS
+            .iter()
+            .copied()
+            .find(|verb| verb.word().as_bytes() == word)
+    }
+
+    /// The word that the verb is.
+    fn word(self) -> &'static str
+        ensures { result.now ≡ verb_word self }
+    {
+        match self {
+            Verb::Event => "event",
+            Verb::Call => "call",
+            Verb::Tick => "tick",
+            Verb::Void => "void",
+            Verb::Made => "made",
+            Verb::Sent => "sent",
+            Verb::Asked(AskedAt::Settle) => "settle",
+            Verb::Asked(AskedAt::Quiet) => "quiet",
+            Verb::Asked(AskedAt::End) => "end",
+            Verb::At => "at",
+            Verb::Meter => "meter",
+        }
     }
 }

@@ -66,12 +66,20 @@ pub fn order(words: &[&[u8]], out: &mut Answer) {
     }
 }
 
+/// The key and the tag of `KEY=TAG`.
+fn tagged_key(word: &[u8]) -> (Key, u64) {
+    match cut_at(word, b'=') {
+        Some((key, tag)) => (key_of(key), number(tag).unwrap_or(0)),
+        None => (key_of(word), 0),
+    }
+}
+
 /// The keys `KEY=TAG` from this index on.
 fn tagged(alloc: Global, words: &[&[u8]], index: usize) -> Result<Keys, AllocError> {
     let mut keys = Keys::new(alloc);
     for word in words_from(words, index) {
-        let (key, tag) = cut_at(word, b'=').unwrap_or((word, b""));
-        keys.set(key_of(key), number(tag).unwrap_or(0))?;
+        let (key, tag) = tagged_key(word);
+        keys.set(key, tag)?;
     }
     Ok(keys)
 }

@@ -1,29 +1,36 @@
 //! Entries of a directory, and what it lists.
 
-use pg_base::{Shared, SharedBytes};
-use pg_entries::{Cell, Entries, Entry, Listing};
+use pg_base::{Shared, SharedBytes, Stamp};
+use pg_entries::{Cell, Entries, Entry};
+use pg_path::Row;
 use pg_register::{GoldFlags, Place};
 use pg_rows::{Answer, ROOT, Stage, id, narrow, play, stamp, word};
 use std::alloc::{AllocError, Global};
 
+/// The place in the root by this name, since this stamp.
+fn place(alloc: Global, stamp: Stamp, name: &[u8]) -> Result<Place, AllocError> {
+    Ok(Place {
+        stamp,
+        parent: ROOT,
+        name: SharedBytes::from_slice(alloc, name)?,
+        live: true,
+    })
+}
+
 /// The words `CHILD STAMP NAME` from this index on: the child is in the root by that name.
 pub fn entry(alloc: Global, words: &[&[u8]], index: usize) -> Result<Entry, AllocError> {
     let index = index.min(9);
+    let place = place(alloc, stamp(words, index + 1), word(words, index + 2))?;
     Ok(Entry {
         child: id(words, index),
-        place: Place {
-            stamp: stamp(words, index + 1),
-            parent: ROOT,
-            name: SharedBytes::from_slice(alloc, word(words, index + 2))?,
-            live: true,
-        },
+        place,
         flags: GoldFlags::new(alloc),
     })
 }
 
-/// The names that are shown.
-fn show(rows: &Listing, out: &mut Answer) {
-    for row in rows.as_slice() {
+/// The names of the rows.
+fn show(rows: &[Row], out: &mut Answer) {
+    for row in rows {
         out.put(row.name.as_slice());
         out.push(b' ');
     }
@@ -58,11 +65,19 @@ impl Listed {
         out.tell(self.entries.lists_any(dir));
     }
 
+    /// `list DIR`: what a copy of the entries lists.
+    fn list(&self, words: &[&[u8]], out: &mut Answer) -> Result<(), AllocError> {
+        let listing = self.entries.copy()?.listing(id(words, 1))?;
+        show(listing.as_slice(), out);
+        Ok(())
+    }
+
     /// `page DIR FROM MOST`
     fn page(&self, words: &[&[u8]], out: &mut Answer) -> Result<(), AllocError> {
         let from = narrow(words, 2) as usize;
         let most = narrow(words, 3) as usize;
-        show(&self.entries.page(id(words, 1), from, most)?, out);
+        let page = self.entries.page(id(words, 1), from, most)?;
+        show(page.as_slice(), out);
         Ok(())
     }
 
@@ -85,7 +100,7 @@ impl Stage for Listed {
             b"put" => self.entries.put(entry(self.alloc, words, 1)?)?,
             b"covers" => out.tell(self.entries.covers(&entry(self.alloc, words, 1)?)),
             b"find" => out.tell_id(self.entries.find(id(words, 1), word(words, 2))),
-            b"list" => show(&self.entries.copy()?.listing(id(words, 1))?, out),
+            b"list" => self.list(words, out)?,
             b"page" => self.page(words, out)?,
             b"count" => self.count(words, out),
             b"sure" | b"unsure" => self.cell(words, out)?,

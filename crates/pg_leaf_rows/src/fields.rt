@@ -38,11 +38,16 @@ impl Stage for Writing {
     }
 }
 
+/// The value at the end.
+fn put<T: fmt::Display + Drop>(value: T, out: &mut Answer) {
+    write!(out, "{}", value);
+}
+
 /// The value, or why there is none.
 fn show<T: fmt::Display + Drop>(answer: Result<T, ReadError>, out: &mut Answer) {
     match answer {
-        Ok(value) => write!(out, "{}", value),
-        Err(error) => write!(out, "{}", error),
+        Ok(value) => put(value, out),
+        Err(error) => put(error, out),
     }
 }
 

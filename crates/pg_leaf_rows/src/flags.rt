@@ -5,20 +5,36 @@ use pg_register::{Flag, GoldFlags, is_removed};
 use pg_rows::{Answer, Stage, narrow, play, servers, wide, word, words_from};
 use std::alloc::{AllocError, Global};
 
-/// `SERVER.BIRTH.NUMBER+`, or with `-` a flag that was taken down.
-fn flag(word: &[u8]) -> Option<Flag> {
-    let (server, rest) = cut_at(word, b'.')?;
-    let (birth, rest) = cut_at(rest, b'.')?;
-    let (count, raised) = match cut_at(rest, b'+') {
-        Some((count, _)) => (count, true),
-        None => (cut_at(rest, b'-')?.0, false),
-    };
+/// The text of a flag's number, and whether the flag is raised.
+fn count_of(word: &[u8]) -> Option<(&[u8], bool)> {
+    if let Some((count, _)) = cut_at(word, b'+') {
+        return Some((count, true));
+    }
+    let (count, _) = cut_at(word, b'-')?;
+    Some((count, false))
+}
+
+/// `NUMBER+`, or with `-` a flag that was taken down.
+fn flag_of(server: u32, birth: u64, word: &[u8]) -> Option<Flag> {
+    let (count, raised) = count_of(word)?;
     Some(Flag {
-        server: number_u32(server)?,
-        birth: number(birth)?,
+        server,
+        birth,
         number: number(count)?,
         raised,
     })
+}
+
+/// `BIRTH.NUMBER+`, or with `-` a flag that was taken down.
+fn flag_on(server: u32, word: &[u8]) -> Option<Flag> {
+    let (birth, rest) = cut_at(word, b'.')?;
+    flag_of(server, number(birth)?, rest)
+}
+
+/// `SERVER.BIRTH.NUMBER+`, or with `-` a flag that was taken down.
+fn flag(word: &[u8]) -> Option<Flag> {
+    let (server, rest) = cut_at(word, b'.')?;
+    flag_on(number_u32(server)?, rest)
 }
 
 fn show_flag(flag: &Flag, out: &mut Answer) {
@@ -33,6 +49,24 @@ fn show(flags: &GoldFlags, out: &mut Answer) {
         if let Some(flag) = flags.at(index) {
             show_flag(flag, out);
         }
+    }
+}
+
+/// Joins the flags from index 1 on.
+fn join_words(flags: &mut GoldFlags, words: &[&[u8]]) -> Result<(), AllocError> {
+    for word in words_from(words, 1) {
+        if let Some(flag) = flag(word) {
+            flags.join(flag)?;
+        }
+    }
+    Ok(())
+}
+
+/// The server at the end, or `none`.
+fn show_server(server: Option<u32>, out: &mut Answer) {
+    match server {
+        Some(server) => write!(out, "{}", server),
+        None => out.put(b"none"),
     }
 }
 
@@ -62,11 +96,7 @@ impl Joined {
     /// and whether it is news.
     fn with(&mut self, words: &[&[u8]], out: &mut Answer) -> Result<(), AllocError> {
         let mut more = self.flags.copy()?;
-        for word in words_from(words, 1) {
-            if let Some(flag) = flag(word) {
-                more.join(flag)?;
-            }
-        }
+        join_words(&mut more, words)?;
         out.tell(self.flags.covers_all(&more));
         out.push(b' ');
         out.tell(more.covers_all(&self.flags));
@@ -79,15 +109,21 @@ impl Joined {
     fn but(&self, words: &[&[u8]], out: &mut Answer) -> Result<(), AllocError> {
         let removed = servers(self.alloc, words, 1)?;
         write!(out, "{} live, least ", self.flags.live_golds(&removed));
-        out.tell_number(self.flags.least_gold(&removed).map(u64::from));
+        show_server(self.flags.least_gold(&removed), out);
         Ok(())
     }
 
     /// `other SERVER REMOVED..`: the least other gold.
     fn other(&self, words: &[&[u8]], out: &mut Answer) -> Result<(), AllocError> {
         let removed = servers(self.alloc, words, 2)?;
-        let other = self.flags.least_other_gold(narrow(words, 1), &removed);
-        out.tell_number(other.map(u64::from));
+        show_server(self.flags.least_other_gold(narrow(words, 1), &removed), out);
+        Ok(())
+    }
+
+    /// `removed SERVER REMOVED..`: whether the server is removed.
+    fn removed(&self, words: &[&[u8]], out: &mut Answer) -> Result<(), AllocError> {
+        let removed = servers(self.alloc, words, 2)?;
+        out.tell(is_removed(&removed, narrow(words, 1)));
         Ok(())
     }
 
@@ -113,10 +149,7 @@ impl Stage for Joined {
             b"other" => self.other(words, out)?,
             b"next" => self.next(words, out),
             b"raised" => out.tell(self.flags.is_raised(narrow(words, 1), wide(words, 2))),
-            b"removed" => {
-                let removed = servers(self.alloc, words, 2)?;
-                out.tell(is_removed(&removed, narrow(words, 1)));
-            }
+            b"removed" => self.removed(words, out)?,
             _ => out.unread(),
         }
         Ok(())

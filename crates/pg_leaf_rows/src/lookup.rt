@@ -71,32 +71,54 @@ fn hold(names: &mut Names, alloc: Global, file: FileId, is_full: bool) -> Result
     names.begin(file, Attributes::blank(alloc, file)?, is_full)
 }
 
-/// What stands in the root, and what `a` lists.
-fn begin(names: &mut Names, alloc: Global) -> Result<(), AllocError> {
+/// Holds the root and what stands in it.
+fn hold_all(names: &mut Names, alloc: Global) -> Result<(), AllocError> {
     hold(names, alloc, ROOT, true)?;
     hold(names, alloc, A, true)?;
-    hold(names, alloc, F, true)?;
+    hold(names, alloc, F, true)
+}
+
+/// The root and `a` list what stands in them.
+fn list_all(names: &mut Names, alloc: Global) -> Result<(), AllocError> {
     list(names, alloc, ROOT, A, b"a")?;
     list(names, alloc, ROOT, F, b"f")?;
     list(names, alloc, A, B, b"b")?;
     list(names, alloc, A, X, b"x")
 }
 
-/// The tree, where `a/b` is `absent`, `filling` or `full`.
-fn small_tree(alloc: Global, held: &[u8]) -> Result<Names, AllocError> {
-    let mut names = Names::new(alloc, 1);
-    begin(&mut names, alloc)?;
+/// `a` knows its own place.
+fn place_a(names: &mut Names, alloc: Global) -> Result<(), AllocError> {
     let own = Attributes {
         place: place(alloc, 1, ROOT, b"a")?,
         flags: GoldFlags::new(alloc),
     };
-    names.set_own(&A, own)?;
-    if held != b"absent".as_slice() {
-        hold(&mut names, alloc, B, false)?;
+    names.set_own(&A, own)
+}
+
+/// Holds `a/b`, unless it is `absent`: `filling` or `full`.
+fn hold_b(names: &mut Names, alloc: Global, held: &[u8]) -> Result<(), AllocError> {
+    if held == b"absent".as_slice() {
+        return Ok(());
     }
+    hold(names, alloc, B, false)?;
     if held == b"full".as_slice() {
         names.fill(&B);
     }
+    Ok(())
+}
+
+/// Makes the tree.
+fn begin(names: &mut Names, alloc: Global, held: &[u8]) -> Result<(), AllocError> {
+    hold_all(names, alloc)?;
+    list_all(names, alloc)?;
+    place_a(names, alloc)?;
+    hold_b(names, alloc, held)
+}
+
+/// The tree, where `a/b` is `absent`, `filling` or `full`.
+fn small_tree(alloc: Global, held: &[u8]) -> Result<Names, AllocError> {
+    let mut names = Names::new(alloc, 1);
+    begin(&mut names, alloc, held)?;
     Ok(names)
 }
 
@@ -139,19 +161,29 @@ fn ask_path(names: &Names, path: &Path, words: &[&[u8]], out: &mut Answer) {
     }
 }
 
+/// What is asked with the path at index 2.
+fn ask_walk(alloc: Global, names: &Names, words: &[&[u8]], out: &mut Answer) {
+    match Path::read(alloc, word(words, 2)) {
+        Ok(path) => ask_path(names, &path, words, out),
+        Err(_) => out.unread(),
+    }
+}
+
+/// What is asked with ids, or with a path.
+fn ask(alloc: Global, names: &Names, words: &[&[u8]], out: &mut Answer) {
+    match word(words, 1) {
+        b"shown" => out.tell_id(shown_by(names, id(words, 2), word(words, 3))),
+        b"room" => out.tell(!is_dir_full(names, id(words, 2), id(words, 3))),
+        b"above" => out.tell(is_above(names, id(words, 2), id(words, 3))),
+        _ => ask_walk(alloc, names, words, out),
+    }
+}
+
 /// `tree HELD ASKED ..`: what is asked of the tree. `shown DIR NAME`: the child that the directory
 /// shows by the name; `room DIR CHILD`: whether there is none for the child; `above THING DIR`:
 /// whether it stands above the directory.
 pub fn tree(alloc: Global, words: &[&[u8]], out: &mut Answer) -> Result<(), AllocError> {
     let names = small_tree(alloc, word(words, 0))?;
-    match word(words, 1) {
-        b"shown" => out.tell_id(shown_by(&names, id(words, 2), word(words, 3))),
-        b"room" => out.tell(!is_dir_full(&names, id(words, 2), id(words, 3))),
-        b"above" => out.tell(is_above(&names, id(words, 2), id(words, 3))),
-        _ => match Path::read(alloc, word(words, 2)) {
-            Ok(path) => ask_path(&names, &path, words, out),
-            Err(_) => out.unread(),
-        },
-    }
+    ask(alloc, &names, words, out);
     Ok(())
 }

@@ -27,7 +27,7 @@ mod lookup;
 mod path;
 mod runs;
 
-use pg_base::cut_at;
+use pg_base::{Bytes, cut_at};
 use pg_rows::{Answer, words_of};
 use std::alloc::{AllocError, Global};
 use std::io;
@@ -68,14 +68,20 @@ fn answer(alloc: Global, verb: &[u8], rest: &[u8], out: &mut Answer) -> Result<(
     }
 }
 
+/// The line that answers the row.
+fn answer_line(alloc: Global, row: &[u8]) -> Result<Bytes, AllocError> {
+    let (verb, rest) = cut_at(row, b' ').unwrap_or((row, b""));
+    let mut out = Answer::new(alloc);
+    answer(alloc, verb, rest, &mut out)?;
+    out.push(b'\n');
+    out.end()
+}
+
 fn main(rt: HostRuntime) -> io::Result<()> {
     for line in rt.lines(rt.alloc()) {
         let line = line?;
-        let mut out = Answer::new(rt.alloc());
-        let (verb, rest) = cut_at(line.as_bytes(), b' ').unwrap_or((line.as_bytes(), b""));
-        answer(rt.alloc(), verb, rest, &mut out)?;
-        out.push(b'\n');
-        rt.stdout().write_all(out.end()?.as_slice())?;
+        let text = answer_line(rt.alloc(), line.as_bytes())?;
+        rt.stdout().write_all(text.as_slice())?;
     }
     Ok(())
 }

@@ -3,7 +3,7 @@
 ghost use Rattle.std.specs.Prelude.{◌≡◌, ◌<◌, ◌^◌, ℕ, map, decimal, IfSome, IfNone};
 ghost use Rattle.pg_base.specs.Id.{spelling};
 ghost use Rattle.pg_base.specs.declared.id.FileId.{FileId};
-ghost use Rattle.pg_msg.specs.Text.{detail_text, greeting_text, kind_text, sort_of, summary_words, IsAbout, IsDetail, IsSummary};
+ghost use Rattle.pg_msg.specs.Text.{detail_text, kind_text, sort_of, summary_words, IsAbout, IsDetail, IsSummary};
 ghost use Rattle.pg_msg.specs.declared.summary.Detail.{Detail};
 ghost use Rattle.pg_msg.specs.declared.summary.MessageKind as kind;
 ghost use Rattle.pg_msg.specs.declared.summary.Summary.{Summary};
@@ -76,23 +76,42 @@ pub struct Summary {
     pub detail: Detail,
 }
 
-fn greeting_word(greeting: Greeting) -> &'static str
-    ensures { result.now ≡ greeting_text greeting }
-{
-    match greeting {
-        Greeting::Here => "here",
-        Greeting::Meet => "meet",
-    }
-}
+/// All kinds of messages.
+const KINDS: [MessageKind; 26] = [
+    MessageKind::Cell,
+    MessageKind::Ack,
+    MessageKind::Harbinger,
+    MessageKind::Want,
+    MessageKind::Delta,
+    MessageKind::Piece,
+    MessageKind::Later,
+    MessageKind::Fetch,
+    MessageKind::Grant,
+    MessageKind::NoGrant,
+    MessageKind::Full,
+    MessageKind::Seek,
+    MessageKind::Greet(Greeting::Here),
+    MessageKind::NoneHere,
+    MessageKind::Gone,
+    MessageKind::Bye,
+    MessageKind::ByeOk,
+    MessageKind::Confirm,
+    MessageKind::PlaceIs,
+    MessageKind::Tell,
+    MessageKind::TellOk,
+    MessageKind::Leave,
+    MessageKind::LeaveOk,
+    MessageKind::Invite,
+    MessageKind::Walk,
+    MessageKind::Greet(Greeting::Meet),
+];
 
-impl fmt::Display for MessageKind {
-    ghost use Rattle.std.specs.Prelude.{Some};
-    ghost use Rattle.pg_msg.specs.Text.{kind_text};
-
-    ghost output = { λ k. Some (kind_text k) };
-
-    fn fmt<W: fmt::Write>(&self, f: &mut fmt::Formatter<W>) -> fmt::Result {
-        f.write_str(match self {
+impl MessageKind {
+    /// The word by which a journal names the kind.
+    fn word(self) -> &'static str
+        ensures { result.now ≡ kind_text self }
+    {
+        match self {
             MessageKind::Cell => "cell",
             MessageKind::Ack => "ack",
             MessageKind::Harbinger => "harb",
@@ -105,7 +124,8 @@ impl fmt::Display for MessageKind {
             MessageKind::NoGrant => "nogrant",
             MessageKind::Full => "full",
             MessageKind::Seek => "seek",
-            MessageKind::Greet(greeting) => greeting_word(*greeting),
+            MessageKind::Greet(Greeting::Here) => "here",
+            MessageKind::Greet(Greeting::Meet) => "meet",
             MessageKind::NoneHere => "nonehere",
             MessageKind::Gone => "gone",
             MessageKind::Bye => "bye",
@@ -118,7 +138,17 @@ impl fmt::Display for MessageKind {
             MessageKind::LeaveOk => "leaveok",
             MessageKind::Invite => "invite",
             MessageKind::Walk => "walk",
-        })
+        }
+    }
+}
+
+impl fmt::Display for MessageKind {
+    ghost use Rattle.std.specs.Prelude.{Some};
+
+    ghost output = { λ k. Some (kind_text k) };
+
+    fn fmt<W: fmt::Write>(&self, f: &mut fmt::Formatter<W>) -> fmt::Result {
+        f.write_str(self.word())
     }
 }
 
@@ -162,35 +192,10 @@ fn kind_of(word: &[u8]) -> Option<MessageKind>
     ensures found { IfSome result (λ k. word.now ≡ kind_text k) }
     ensures none { IfNone result ((k : kind.MessageKind) → word.now ≡ kind_text k → ⊥) }
 {
-    match word {
-        b"cell" => Some(MessageKind::Cell),
-        b"ack" => Some(MessageKind::Ack),
-        b"harb" => Some(MessageKind::Harbinger),
-        b"want" => Some(MessageKind::Want),
-        b"delta" => Some(MessageKind::Delta),
-        b"piece" => Some(MessageKind::Piece),
-        b"later" => Some(MessageKind::Later),
-        b"fetch" => Some(MessageKind::Fetch),
-        b"grant" => Some(MessageKind::Grant),
-        b"nogrant" => Some(MessageKind::NoGrant),
-        b"full" => Some(MessageKind::Full),
-        b"seek" => Some(MessageKind::Seek),
-        b"here" => Some(MessageKind::Greet(Greeting::Here)),
-        b"nonehere" => Some(MessageKind::NoneHere),
-        b"gone" => Some(MessageKind::Gone),
-        b"bye" => Some(MessageKind::Bye),
-        b"byeok" => Some(MessageKind::ByeOk),
-        b"confirm" => Some(MessageKind::Confirm),
-        b"placeis" => Some(MessageKind::PlaceIs),
-        b"tell" => Some(MessageKind::Tell),
-        b"tellok" => Some(MessageKind::TellOk),
-        b"leave" => Some(MessageKind::Leave),
-        b"leaveok" => Some(MessageKind::LeaveOk),
-        b"invite" => Some(MessageKind::Invite),
-        b"walk" => Some(MessageKind::Walk),
-        b"meet" => Some(MessageKind::Greet(Greeting::Meet)),
-        _ => None,
-    }
+    KINDS
+        .iter()
+        .copied()
+        .find(|kind| kind.word().as_bytes() == word)
 }
 
 /// From whom and to whom.
@@ -234,13 +239,8 @@ fn detail_of(kind: MessageKind, word: &[u8]) -> Option<Detail>
         | MessageKind::PlaceIs
         | MessageKind::Tell
         | MessageKind::TellOk => Some(Detail::Child(read_id(word)?)),
-        _ => {
-            if is_same(word, b"-") {
-                Some(Detail::Nothing)
-            } else {
-                None
-            }
-        }
+        _ if is_same(word, b"-") => Some(Detail::Nothing),
+        _ => None,
     }
 }
 

@@ -107,50 +107,75 @@ fn are_equal(one: &[Datagram], other: &[Datagram]) -> bool {
     true
 }
 
+/// The disk of a node that served alone, took these packets and then stopped or took no more.
+fn left_by(alloc: Global, packets: &[Datagram], wanted: Status) -> Result<MemoryDisk, Fail> {
+    let mut own = new_disk(alloc);
+    let (_sent, status) = served(alloc, &mut own, 1, 1, packets)?;
+    if status != wanted {
+        return Err(Fail::from("another end"));
+    }
+    Ok(own)
+}
+
+/// A new disk with these files of another.
+fn disk_with(alloc: Global, disk: &MemoryDisk, files: &[u8]) -> Result<MemoryDisk, Fail> {
+    let mut own = new_disk(alloc);
+    for file in files {
+        if *file <= 2 {
+            put(&mut own, disk, *file)?;
+        }
+    }
+    Ok(own)
+}
+
+/// What a node that serves alone over this disk sends until it stops, asked for this.
+fn sent_until_stopped(
+    alloc: Global,
+    disk: &mut MemoryDisk,
+    asked: &[&[u8]],
+) -> Result<Vec<Datagram>, Fail> {
+    let packets = calls(alloc, asked, 0)?;
+    let (sent, status) = served(alloc, disk, 1, 1, &packets)?;
+    if status != Status::Done {
+        return Err(Fail::from("another end"));
+    }
+    Ok(sent)
+}
+
+/// The disk of a node that took 1,100 calls and then `stop`.
+fn left_by_many_calls(alloc: Global) -> Result<MemoryDisk, Fail> {
+    let mut packets = calls(alloc, &[], 1_100)?;
+    packets.push(call(alloc, STOP)?)?;
+    left_by(alloc, &packets, Status::Done)
+}
+
 #[test]
 fn with_and_without_slots_the_packets_are_equal(rt: HostRuntime) -> Result<(), Fail> {
     let alloc: Global = rt.alloc();
-    let mut first = new_disk(alloc);
-    let mut packets = calls(alloc, &[], 1_100)?;
-    packets.push(call(alloc, STOP)?)?;
-    let (_sent, status) = served(alloc, &mut first, 1, 1, &packets)?;
-    assert!(rt; status == Status::Done);
-    let mut with = new_disk(alloc);
-    let mut without = new_disk(alloc);
-    put(&mut with, &first, 0)?;
-    put(&mut with, &first, 1)?;
-    put(&mut with, &first, 2)?;
-    put(&mut without, &first, 0)?;
+    let first = left_by_many_calls(alloc)?;
     // the first saving was in the first slot
-    assert!(rt; !with.bytes(1)?.is_empty());
-    assert!(rt; with.bytes(2)?.is_empty());
-    let packets = calls(alloc, &[MKDIR, LS, STATUS, STOP], 0)?;
-    let (one, ended) = served(alloc, &mut with, 1, 1, &packets)?;
-    assert!(rt; ended == Status::Done);
-    let (other, ended) = served(alloc, &mut without, 1, 1, &packets)?;
-    assert!(rt; ended == Status::Done);
-    assert!(rt; one.len() == 4);
-    assert!(rt; are_equal(&one, &other));
+    assert!(rt; !first.bytes(1)?.is_empty() && first.bytes(2)?.is_empty());
+    let asked = [MKDIR, LS, STATUS, STOP];
+    let one = sent_until_stopped(alloc, &mut disk_with(alloc, &first, &[0, 1, 2])?, &asked)?;
+    let other = sent_until_stopped(alloc, &mut disk_with(alloc, &first, &[0])?, &asked)?;
+    assert!(rt; one.len() == 4 && are_equal(&one, &other));
     Ok(())
+}
+
+/// A disk with the log of a node that made `/a`, and in its slot what a node holds that made `/b` in
+/// the place of `/a`, told as folded from three entries.
+fn disk_of_two(alloc: Global) -> Result<MemoryDisk, Fail> {
+    let mut own = left_by(alloc, &calls(alloc, &[MKDIR, STOP], 0)?, Status::Done)?;
+    let other = left_by(alloc, &calls(alloc, &[MKDIR_B], 1_022)?, Status::TurnsSpent)?;
+    put(&mut own, &other, 1)?;
+    write_synced(&mut own, 1, 9, &3u64.to_be_bytes())?;
+    Ok(own)
 }
 
 #[test]
 fn a_checkpoint_is_gone_on_from_whatever_it_says(rt: HostRuntime) -> Result<(), Fail> {
     let alloc: Global = rt.alloc();
-    let mut own = new_disk(alloc);
-    let packets = calls(alloc, &[MKDIR, STOP], 0)?;
-    let (_sent, status) = served(alloc, &mut own, 1, 1, &packets)?;
-    assert!(rt; status == Status::Done);
-    // what a node holds that made `/b` in the place of `/a`, told as folded from three entries
-    let mut other = new_disk(alloc);
-    let packets = calls(alloc, &[MKDIR_B], 1_022)?;
-    let (_sent, status) = served(alloc, &mut other, 1, 1, &packets)?;
-    assert!(rt; status == Status::TurnsSpent);
-    put(&mut own, &other, 1)?;
-    write_synced(&mut own, 1, 9, &3u64.to_be_bytes())?;
-    let packets = calls(alloc, &[LS, STOP], 0)?;
-    let (sent, status) = served(alloc, &mut own, 1, 1, &packets)?;
-    assert!(rt; status == Status::Done);
+    let sent = sent_until_stopped(alloc, &mut disk_of_two(alloc)?, &[LS, STOP])?;
     assert!(rt; is_answered(alloc, &sent, NAMES_B)?);
     Ok(())
 }
@@ -177,37 +202,75 @@ fn pass(
     Ok(count)
 }
 
+/// A server of two, by the port that its packets go to: what it took so far, and how many packets
+/// of the other it was passed.
+#[derive(Drop)]
+struct Taker {
+    taken: Vec<Datagram>,
+    passed: u64,
+}
+
+impl Taker {
+    fn new(alloc: Global) -> Taker {
+        Taker {
+            taken: Vec::new(alloc),
+            passed: 0,
+        }
+    }
+
+    /// It takes this call as well.
+    fn asks(&mut self, alloc: Global, words: &[u8]) -> Result<(), AllocError> {
+        self.taken.push(call(alloc, words)?)?;
+        Ok(())
+    }
+
+    /// What the server sends that takes all this from the start.
+    fn sent(&self, alloc: Global, server: u32) -> Result<Vec<Datagram>, AllocError>
+        requires first { 1 ≤ server }
+        requires last { server ≤ 2 }
+    {
+        let mut disk = new_disk(alloc);
+        let (sent, _status) = served(alloc, &mut disk, server, 2, &self.taken)?;
+        Ok(sent)
+    }
+
+    /// It takes what was sent to its port, `to`, but for what it was passed before, as it comes
+    /// from the other port.
+    fn is_passed(
+        &mut self,
+        alloc: Global,
+        sent: &[Datagram],
+        to: u16,
+        from: u16,
+    ) -> Result<(), AllocError> {
+        self.passed = pass(alloc, sent, to, from, self.passed, &mut self.taken)?;
+        Ok(())
+    }
+}
+
 /// What server 2 of 2 takes until it has what server 1 has of a file. A client of server 1 makes
 /// the file, one of server 2 asks for it, a tick there fills it, and then the first writes it
-/// twice.
+/// twice. In each round each server takes again all that it took, and what is new.
 fn taken_by_two(alloc: Global) -> Result<Vec<Datagram>, AllocError> {
-    let mut one = Vec::new(alloc);
-    let mut two = Vec::new(alloc);
-    let mut to_one = 0u64;
-    let mut to_two = 0u64;
+    let mut one = Taker::new(alloc);
+    let mut two = Taker::new(alloc);
+    one.asks(alloc, CREATE)?;
     for round in 0..7u8 {
-        if round == 0 {
-            one.push(call(alloc, CREATE)?)?;
-        }
         if round == 4 {
-            one.push(write_part(alloc, 0)?)?;
-            one.push(write_part(alloc, PART)?)?;
+            one.taken.push(write_part(alloc, 0)?)?;
+            one.taken.push(write_part(alloc, PART)?)?;
         }
-        // each takes again all that it took, and what is new
-        let mut disk = new_disk(alloc);
-        let (sent, _status) = served(alloc, &mut disk, 1, 2, &one)?;
-        to_two = pass(alloc, &sent, 9002, 9001, to_two, &mut two)?;
+        two.is_passed(alloc, &one.sent(alloc, 1)?, 9002, 9001)?;
         if round == 0 {
-            two.push(call(alloc, READ)?)?;
+            two.asks(alloc, READ)?;
         }
         if round == 2 {
-            two.push(call(alloc, TICK)?)?;
+            two.asks(alloc, TICK)?;
         }
-        let mut disk = new_disk(alloc);
-        let (sent, _status) = served(alloc, &mut disk, 2, 2, &two)?;
-        to_one = pass(alloc, &sent, 9001, 9002, to_one, &mut one)?;
+        one.is_passed(alloc, &two.sent(alloc, 2)?, 9001, 9002)?;
     }
-    Ok(two)
+    let Taker { taken, passed: _ } = two;
+    Ok(taken)
 }
 
 /// Whether the first packet ends in these bytes.
@@ -225,40 +288,75 @@ fn is_piece(packet: &Datagram) -> bool {
     }
 }
 
+/// The places of the last two pieces among these.
+fn last_pieces(all: &[Datagram]) -> Option<(usize, usize)> {
+    let mut found = None;
+    let mut last = None;
+    for (k, packet) in all.iter().enumerate() {
+        if is_piece(packet) {
+            found = match last {
+                Some(before) => Some((before, k)),
+                None => None,
+            };
+            last = Some(k);
+        }
+    }
+    found
+}
+
+/// What server 2 takes so that its log has 1,024 entries behind the packet at this place: calls,
+/// and then these, as far as the last.
+fn taken_until(
+    alloc: Global,
+    all: &[Datagram],
+    place: usize,
+    last: usize,
+) -> Result<Vec<Datagram>, AllocError> {
+    let mut packets = calls(alloc, &[], 1_022u64.saturating_sub(place as u64))?;
+    for packet in all.iter().take(last.saturating_add(1)) {
+        packets.push(Datagram::new(packet.port(), packet.bytes().to_vec(alloc)?))?;
+    }
+    Ok(packets)
+}
+
+/// What server 2 of 2 sends over the disk that takes these packets, and all of which it takes.
+fn sent_by_two(
+    alloc: Global,
+    disk: &mut MemoryDisk,
+    packets: &[Datagram],
+) -> Result<Vec<Datagram>, Fail> {
+    let (sent, status) = served(alloc, disk, 2, 2, packets)?;
+    if status != Status::TurnsSpent {
+        return Err(Fail::from("another end"));
+    }
+    Ok(sent)
+}
+
+/// The disk of server 2 with a checkpoint that was saved between the last two pieces, which are
+/// those of one version. None where there are no such pieces.
+fn disk_between_pieces(alloc: Global) -> Result<Option<MemoryDisk>, Fail> {
+    let all = taken_by_two(alloc)?;
+    let Some((before, last)) = last_pieces(&all) else {
+        return Ok(None);
+    };
+    if before >= 1_000 {
+        return Ok(None);
+    }
+    let packets = taken_until(alloc, &all, before, last)?;
+    let mut own = new_disk(alloc);
+    let _sent = sent_by_two(alloc, &mut own, &packets)?;
+    Ok(Some(own))
+}
+
 #[test]
 fn what_was_announced_is_in_the_checkpoint(rt: HostRuntime) -> Result<(), Fail> {
     let alloc: Global = rt.alloc();
-    let all = taken_by_two(alloc)?;
-    // the last two pieces are those of one version
-    let mut places = Vec::new(alloc);
-    for (k, packet) in all.iter().enumerate() {
-        if is_piece(packet) {
-            places.push(k)?;
-        }
-    }
-    let (before, last) = match places.as_slice() {
-        [.., before, last] => (*before, *last),
-        _ => (0, 0),
+    let Some(own) = disk_between_pieces(alloc)? else {
+        return Err(Fail::from("no pieces"));
     };
-    assert!(rt; before < last);
-    assert!(rt; before < 1_000);
-    // the checkpoint is saved behind the first of them: the log then has 1,024 entries
-    let mut packets = calls(alloc, &[], 1_022u64.saturating_sub(before as u64))?;
-    for (k, packet) in all.iter().enumerate() {
-        if k <= last {
-            packets.push(Datagram::new(packet.port(), packet.bytes().to_vec(alloc)?))?;
-        }
-    }
-    let mut own = new_disk(alloc);
-    let (_sent, status) = served(alloc, &mut own, 2, 2, &packets)?;
-    assert!(rt; status == Status::TurnsSpent);
     assert!(rt; !own.bytes(1)?.is_empty());
-    let mut again = new_disk(alloc);
-    put(&mut again, &own, 0)?;
-    put(&mut again, &own, 1)?;
-    let packets = calls(alloc, &[STAT], 0)?;
-    let (sent, status) = served(alloc, &mut again, 2, 2, &packets)?;
-    assert!(rt; status == Status::TurnsSpent);
+    let mut again = disk_with(alloc, &own, &[0, 1])?;
+    let sent = sent_by_two(alloc, &mut again, &calls(alloc, &[STAT], 0)?)?;
     assert!(rt; ends_in(&sent, STAT_END));
     Ok(())
 }

@@ -47,21 +47,70 @@ fn other(alloc: Global, bytes: &[u8]) -> Result<Datagram, AllocError> {
     Ok(Datagram::new(9001, Vec::from_slice(alloc, bytes)?))
 }
 
+/// A call that was made: its net and its sink, and how it ended.
+#[derive(Drop)]
+struct Asked {
+    net: MemoryNet,
+    sink: MemorySink,
+    ended: Status,
+}
+
+impl Asked {
+    /// Whether it ended so and wrote just this, with so many packets sent and so many takes.
+    fn is(&self, ended: Status, written: &[u8], sent: usize, takes: u64) -> bool {
+        self.ended == ended
+            && self.sink.bytes() == written
+            && self.net.sent().len() == sent
+            && self.net.takes() == takes
+    }
+
+    /// Whether all that was sent went to this port.
+    fn went_to(&self, port: u16) -> bool {
+        self.net.sent().iter().all(|packet| packet.port() == port)
+    }
+}
+
+/// Server 1 behind port 9000 is asked for `/a`, over a net that gives these packets; these calls of
+/// the net and of the sink fail.
+fn asked(
+    alloc: Global,
+    packets: Vec<Datagram>,
+    net_fails: &[u64],
+    sink_fails: &[u64],
+) -> Result<Asked, AllocError> {
+    let mut net = MemoryNet::new(alloc, packets, net_fails.to_vec(alloc)?);
+    let mut sink = MemorySink::new(alloc, sink_fails.to_vec(alloc)?);
+    let ended = ask(alloc, &mut net, 1, 9000, mkdir(alloc)?, &mut sink);
+    Ok(Asked { net, sink, ended })
+}
+
+/// One packet: server 1's reply under this number.
+fn one(alloc: Global, number: u64, words: Reply) -> Result<Vec<Datagram>, AllocError>
+    requires { FitsReply words }
+{
+    let mut packets = Vec::new(alloc);
+    packets.push(reply(alloc, number, words)?)?;
+    Ok(packets)
+}
+
+/// So many packets of these bytes, and behind them the reply to the call.
+fn behind(alloc: Global, count: u8, bytes: &[u8]) -> Result<Vec<Datagram>, AllocError> {
+    let mut packets = Vec::new(alloc);
+    for _ in 0..count {
+        packets.push(other(alloc, bytes)?)?;
+    }
+    packets.push(reply(alloc, 1, made())?)?;
+    Ok(packets)
+}
+
 #[test]
 fn the_reply_is_written(rt: HostRuntime) -> Result<(), Fail> {
     let alloc: Global = rt.alloc();
-    let mut packets = Vec::new(alloc);
-    packets.push(reply(alloc, 1, made())?)?;
-    let mut net = MemoryNet::new(alloc, packets, Vec::new(alloc));
-    let mut sink = MemorySink::new(alloc, Vec::new(alloc));
-    let ended = ask(alloc, &mut net, 1, 9000, mkdir(alloc)?, &mut sink);
-    assert_eq!(rt; ended, Status::Done);
-    assert_eq!(rt; sink.bytes(), b"made d1.1\n".as_slice());
-    assert_eq!(rt; (net.bound(), net.takes()), (Some(0), 1));
+    let call = asked(alloc, one(alloc, 1, made())?, &[], &[])?;
+    assert!(rt; call.is(Status::Done, b"made d1.1\n", 1, 1));
+    assert!(rt; call.went_to(9001) && call.net.bound() == Some(0));
     let wanted = b"PG\x01\x1b\0\0\0\0\0\0\0\0\0\0\0\0\0\0\0\0\0\0\0\x01\x01\0\x02/a";
-    assert_eq!(rt; net.sent().len(), 1);
-    for packet in net.sent() {
-        assert_eq!(rt; packet.port(), 9001);
+    for packet in call.net.sent() {
         assert_eq!(rt; packet.bytes(), wanted.as_slice());
     }
     Ok(())
@@ -70,66 +119,47 @@ fn the_reply_is_written(rt: HostRuntime) -> Result<(), Fail> {
 #[test]
 fn a_reply_under_another_number_is_none(rt: HostRuntime) -> Result<(), Fail> {
     let alloc: Global = rt.alloc();
-    let mut packets = Vec::new(alloc);
-    packets.push(reply(alloc, 2, made())?)?;
-    let mut net = MemoryNet::new(alloc, packets, Vec::new(alloc));
-    let mut sink = MemorySink::new(alloc, Vec::new(alloc));
-    let ended = ask(alloc, &mut net, 1, 9000, mkdir(alloc)?, &mut sink);
-    assert_eq!(rt; ended, Status::TurnsSpent);
-    assert_eq!(rt; sink.bytes(), b"".as_slice());
-    assert_eq!(rt; (net.sent().len(), net.takes()), (1, 10));
+    let call = asked(alloc, one(alloc, 2, made())?, &[], &[])?;
+    assert!(rt; call.is(Status::TurnsSpent, b"", 1, 10));
     Ok(())
 }
 
 #[test]
 fn a_refusal_has_a_number(rt: HostRuntime) -> Result<(), Fail> {
     let alloc: Global = rt.alloc();
-    let mut packets = Vec::new(alloc);
-    packets.push(reply(alloc, 1, Reply::Refused(Refusal::BadPath(1)))?)?;
-    let mut net = MemoryNet::new(alloc, packets, Vec::new(alloc));
-    let mut sink = MemorySink::new(alloc, Vec::new(alloc));
-    let ended = ask(alloc, &mut net, 1, 9000, mkdir(alloc)?, &mut sink);
-    assert_eq!(rt; ended, Status::Refused(1));
-    assert_eq!(rt; sink.bytes(), b"refused 1 BadPath 1\n".as_slice());
+    let refused = one(alloc, 1, Reply::Refused(Refusal::BadPath(1)))?;
+    let call = asked(alloc, refused, &[], &[])?;
+    assert!(rt; call.is(Status::Refused(1), b"refused 1 BadPath 1\n", 1, 1));
     Ok(())
+}
+
+/// Bytes that are no packet, a packet that is no reply, and two replies.
+fn two_and_two(alloc: Global) -> Result<Vec<Datagram>, AllocError> {
+    let status = b"PG\x01\x1b\0\0\0\0\0\0\0\0\0\0\0\0\0\0\0\0\0\0\0\x01\x11";
+    let mut packets = Vec::new(alloc);
+    packets.push(other(alloc, b"PG")?)?;
+    packets.push(other(alloc, status)?)?;
+    packets.push(reply(alloc, 1, Reply::Done)?)?;
+    packets.push(reply(alloc, 1, made())?)?;
+    Ok(packets)
 }
 
 #[test]
 fn what_is_no_reply_is_passed_over(rt: HostRuntime) -> Result<(), Fail> {
     let alloc: Global = rt.alloc();
-    let mut packets = Vec::new(alloc);
-    packets.push(other(alloc, b"PG")?)?;
-    packets.push(other(
-        alloc,
-        b"PG\x01\x1b\0\0\0\0\0\0\0\0\0\0\0\0\0\0\0\0\0\0\0\x01\x11",
-    )?)?;
-    packets.push(reply(alloc, 1, Reply::Done)?)?;
-    packets.push(reply(alloc, 1, made())?)?;
-    let mut net = MemoryNet::new(alloc, packets, Vec::new(alloc));
+    let mut net = MemoryNet::new(alloc, two_and_two(alloc)?, Vec::new(alloc));
     let mut sink = MemorySink::new(alloc, Vec::new(alloc));
     let ended = ask(alloc, &mut net, 64, 65_471, Request::Tick, &mut sink);
-    assert_eq!(rt; ended, Status::Done);
-    assert_eq!(rt; sink.bytes(), b"done\n".as_slice());
-    assert_eq!(rt; net.takes(), 3);
-    for packet in net.sent() {
-        assert_eq!(rt; packet.port(), 65_535);
-    }
+    let call = Asked { net, sink, ended };
+    assert!(rt; call.is(Status::Done, b"done\n", 1, 3) && call.went_to(65_535));
     Ok(())
 }
 
 #[test]
 fn an_eleventh_packet_comes_too_late(rt: HostRuntime) -> Result<(), Fail> {
     let alloc: Global = rt.alloc();
-    let mut packets = Vec::new(alloc);
-    for _ in 0..10u8 {
-        packets.push(other(alloc, b"")?)?;
-    }
-    packets.push(reply(alloc, 1, made())?)?;
-    let mut net = MemoryNet::new(alloc, packets, Vec::new(alloc));
-    let mut sink = MemorySink::new(alloc, Vec::new(alloc));
-    let ended = ask(alloc, &mut net, 1, 9000, mkdir(alloc)?, &mut sink);
-    assert_eq!(rt; ended, Status::TurnsSpent);
-    assert_eq!(rt; sink.bytes(), b"".as_slice());
+    let call = asked(alloc, behind(alloc, 10, b"")?, &[], &[])?;
+    assert!(rt; call.is(Status::TurnsSpent, b"", 1, 10));
     Ok(())
 }
 
@@ -137,15 +167,9 @@ fn an_eleventh_packet_comes_too_late(rt: HostRuntime) -> Result<(), Fail> {
 fn each_call_of_the_net_may_fail(rt: HostRuntime) -> Result<(), Fail> {
     let alloc: Global = rt.alloc();
     for failing in 0..3u64 {
-        let mut packets = Vec::new(alloc);
-        packets.push(reply(alloc, 1, made())?)?;
-        let mut net = MemoryNet::new(alloc, packets, [failing].to_vec(alloc)?);
-        let mut sink = MemorySink::new(alloc, Vec::new(alloc));
-        let ended = ask(alloc, &mut net, 1, 9000, mkdir(alloc)?, &mut sink);
-        assert_eq!(rt; ended, Status::NetFault);
-        assert_eq!(rt; (net.faults(), net.takes()), (1, 0));
-        assert_eq!(rt; net.sent().len() == 1, failing == 2);
-        assert_eq!(rt; sink.bytes(), b"".as_slice());
+        let call = asked(alloc, one(alloc, 1, made())?, &[failing], &[])?;
+        let sent = if failing == 2 { 1 } else { 0 };
+        assert!(rt; call.is(Status::NetFault, b"", sent, 0) && call.net.faults() == 1);
     }
     Ok(())
 }
@@ -153,12 +177,7 @@ fn each_call_of_the_net_may_fail(rt: HostRuntime) -> Result<(), Fail> {
 #[test]
 fn a_write_may_fail(rt: HostRuntime) -> Result<(), Fail> {
     let alloc: Global = rt.alloc();
-    let mut packets = Vec::new(alloc);
-    packets.push(reply(alloc, 1, made())?)?;
-    let mut net = MemoryNet::new(alloc, packets, Vec::new(alloc));
-    let mut sink = MemorySink::new(alloc, [0].to_vec(alloc)?);
-    let ended = ask(alloc, &mut net, 1, 9000, mkdir(alloc)?, &mut sink);
-    assert_eq!(rt; ended, Status::WriteFault);
-    assert_eq!(rt; sink.bytes(), b"".as_slice());
+    let call = asked(alloc, one(alloc, 1, made())?, &[], &[0])?;
+    assert!(rt; call.is(Status::WriteFault, b"", 1, 1));
     Ok(())
 }

@@ -83,14 +83,9 @@ fn others_go_to(own: &MemoryNet, port: u16) -> bool {
 #[test]
 fn a_call_is_answered(rt: HostRuntime) -> Result<(), Fail> {
     let alloc: Global = rt.alloc();
-    let mut packets = Vec::new(alloc);
-    packets.push(call(alloc, MKDIR)?)?;
-    let mut own = net(alloc, packets, &[])?;
-    let status = ended(alloc, &mut own, 1)?;
-    assert!(rt; status == Status::TurnsSpent);
-    assert!(rt; own.bound() == Some(9001));
-    assert!(rt; own.takes() == 5);
-    assert!(rt; own.sent().len() == 1);
+    let mut own = asks(alloc, &[MKDIR])?;
+    assert!(rt; ended(alloc, &mut own, 1)? == Status::TurnsSpent);
+    assert!(rt; own.bound() == Some(9001) && own.takes() == 5 && own.sent().len() == 1);
     assert!(rt; is_answered(alloc, own.sent(), MADE)?);
     Ok(())
 }
@@ -98,47 +93,58 @@ fn a_call_is_answered(rt: HostRuntime) -> Result<(), Fail> {
 #[test]
 fn messages_go_behind_the_reply(rt: HostRuntime) -> Result<(), Fail> {
     let alloc: Global = rt.alloc();
-    let mut packets = Vec::new(alloc);
-    packets.push(call(alloc, MKDIR)?)?;
-    let mut own = net(alloc, packets, &[])?;
-    let status = ended(alloc, &mut own, 2)?;
-    assert!(rt; status == Status::TurnsSpent);
-    assert!(rt; is_answered(alloc, own.sent(), MADE)?);
-    assert!(rt; others_go_to(&own, 9002));
+    let mut own = asks(alloc, &[MKDIR])?;
+    assert!(rt; ended(alloc, &mut own, 2)? == Status::TurnsSpent);
+    assert!(rt; is_answered(alloc, own.sent(), MADE)? && others_go_to(&own, 9002));
     Ok(())
+}
+
+/// Adds what comes from the client.
+fn push_bytes(packets: &mut Vec<Datagram>, bytes: Vec<u8>) -> Result<(), AllocError> {
+    packets.push(Datagram::new(CLIENT, bytes))?;
+    Ok(())
+}
+
+/// As many bytes of 255 as a packet may have.
+fn longest(alloc: Global) -> Result<Vec<u8>, AllocError> {
+    let mut longest = Vec::new(alloc);
+    longest.resize(40_000, 255u8)?;
+    Ok(longest)
+}
+
+/// Bytes that are no packet, the longest of these, a call that a byte follows, a reply, and `stop`.
+fn four_and_stop(alloc: Global) -> Result<Vec<Datagram>, AllocError> {
+    let mut packets = Vec::new(alloc);
+    push_bytes(&mut packets, b"PG\x01".to_vec(alloc)?)?;
+    push_bytes(&mut packets, longest(alloc)?)?;
+    push_bytes(&mut packets, packet(alloc, 27, 0, b"\x12\0")?)?;
+    push_bytes(&mut packets, packet(alloc, 28, 2, DONE)?)?;
+    push_bytes(&mut packets, packet(alloc, 27, 0, STOP)?)?;
+    Ok(packets)
 }
 
 #[test]
 fn what_asks_nothing_is_passed_over(rt: HostRuntime) -> Result<(), Fail> {
     let alloc: Global = rt.alloc();
-    let mut packets = Vec::new(alloc);
-    // bytes that are no packet, as many of 255 as a packet may have, a call that a byte follows,
-    // and a reply
-    packets.push(Datagram::new(CLIENT, b"PG\x01".to_vec(alloc)?))?;
-    let mut longest = Vec::new(alloc);
-    longest.resize(40_000, 255u8)?;
-    packets.push(Datagram::new(CLIENT, longest))?;
-    packets.push(call(alloc, b"\x12\0")?)?;
-    packets.push(Datagram::new(CLIENT, packet(alloc, 28, 2, DONE)?))?;
-    packets.push(call(alloc, STOP)?)?;
-    let mut own = net(alloc, packets, &[])?;
-    let status = ended(alloc, &mut own, 1)?;
-    assert!(rt; status == Status::Done);
-    assert!(rt; own.takes() == 5);
-    assert!(rt; own.sent().len() == 1);
+    let mut own = net(alloc, four_and_stop(alloc)?, &[])?;
+    assert!(rt; ended(alloc, &mut own, 1)? == Status::Done);
+    assert!(rt; own.takes() == 5 && own.sent().len() == 1);
     assert!(rt; is_answered(alloc, own.sent(), DONE)?);
     Ok(())
 }
 
-/// Whether a fetch of the root by server 2, of this view, is answered, and whether it is kept in
-/// the log.
-fn fetched(alloc: Global, view: u8) -> Result<(bool, bool), AllocError> {
+/// A fetch of the root by server 2, of this view.
+fn fetch(alloc: Global, view: u8) -> Result<Datagram, AllocError> {
     let mut fetch = b"PG\x01\x08\0\0\0\x02\0\0\0\0\0\0\0".to_vec(alloc)?;
     fetch.push(view)?;
-    fetch.extend_from_slice(b"d\0\0\0\0\0\0\0\0\0\0\0\0")?;
-    fetch.extend_from_slice(b"\0\0\0\0\0\0\0\x03")?;
+    fetch.extend_from_slice(b"d\0\0\0\0\0\0\0\0\0\0\0\0\0\0\0\0\0\0\0\x03")?;
+    Ok(Datagram::new(9002, fetch))
+}
+
+/// Whether such a fetch is answered, and whether it is kept in the log.
+fn fetched(alloc: Global, view: u8) -> Result<(bool, bool), AllocError> {
     let mut packets = Vec::new(alloc);
-    packets.push(Datagram::new(9002, fetch))?;
+    packets.push(fetch(alloc, view)?)?;
     let mut own = net(alloc, packets, &[])?;
     let mut new = disk(alloc, &[])?;
     let _ = ended_on(alloc, &mut own, &mut new, 2)?;
@@ -155,20 +161,52 @@ fn a_message_of_another_view_is_not_answered(rt: HostRuntime) -> Result<(), Fail
     Ok(())
 }
 
+/// A net whose packets ask this of a server, and of whose calls this one fails.
+fn asks_and_fails(alloc: Global, calls: &[&[u8]], failing: u64) -> Result<MemoryNet, AllocError> {
+    let mut packets = Vec::new(alloc);
+    for words in calls {
+        packets.push(call(alloc, words)?)?;
+    }
+    net(alloc, packets, &[failing])
+}
+
 #[test]
 fn each_call_on_the_net_fails_in_turn(rt: HostRuntime) -> Result<(), Fail> {
     let alloc: Global = rt.alloc();
-    for fails in 0..4u64 {
-        let mut packets = Vec::new(alloc);
-        packets.push(call(alloc, TICK)?)?;
-        packets.push(call(alloc, STOP)?)?;
-        let mut own = net(alloc, packets, &[fails])?;
+    for failing in 0..4u64 {
+        let mut own = asks_and_fails(alloc, &[TICK, STOP], failing)?;
         let status = ended(alloc, &mut own, 1)?;
-        assert!(rt; status == Status::NetFault);
         // the port is bound, a tick is taken and answered, and `stop` is taken
-        assert!(rt; own.sent().len() == if fails < 3 { 0 } else { 1 });
+        let count = if failing < 3 { 0 } else { 1 };
+        assert!(rt; status == Status::NetFault && own.sent().len() == count);
     }
     Ok(())
+}
+
+/// Whether the log has entries of these kinds.
+fn has_kinds(alloc: Global, disk: &mut MemoryDisk, wanted: &[u8]) -> Result<bool, AllocError> {
+    Ok(kinds(alloc, disk)?.as_slice() == wanted)
+}
+
+/// Whether server 1 of one, asked this and then to stop, goes on over the disk, sends just two
+/// packets and answers the first call so.
+fn goes_on(
+    alloc: Global,
+    disk: &mut MemoryDisk,
+    words: &[u8],
+    reply: &[u8],
+) -> Result<bool, AllocError> {
+    let mut own = asks(alloc, &[words, STOP])?;
+    let status = ended_on(alloc, &mut own, disk, 1)?;
+    Ok(status == Status::Done && own.sent().len() == 2 && is_answered(alloc, own.sent(), reply)?)
+}
+
+/// Whether server 1 of one ends, asked for `/a` by a net of whose calls this one fails, with nothing
+/// sent.
+fn is_cut_off(alloc: Global, disk: &mut MemoryDisk, failing: u64) -> Result<bool, AllocError> {
+    let mut own = asks_and_fails(alloc, &[MKDIR], failing)?;
+    let status = ended_on(alloc, &mut own, disk, 1)?;
+    Ok(status == Status::NetFault && own.sent().is_empty())
 }
 
 /// Where the first take fails, nothing is in the log but its begin; where the first send fails, the
@@ -176,24 +214,12 @@ fn each_call_on_the_net_fails_in_turn(rt: HostRuntime) -> Result<(), Fail> {
 #[test]
 fn a_call_is_kept_though_its_reply_is_not_sent(rt: HostRuntime) -> Result<(), Fail> {
     let alloc: Global = rt.alloc();
-    for fails in 1..3u64 {
-        let is_taken = fails == 2;
+    let rows: [(u64, &[u8], &[u8]); 2] = [(1, b"\x05", NO_NAMES), (2, b"\x05\x01", NAMES)];
+    for (failing, kept, names) in rows {
         let mut own = disk(alloc, &[])?;
-        let mut packets = Vec::new(alloc);
-        packets.push(call(alloc, MKDIR)?)?;
-        let mut first = net(alloc, packets, &[fails])?;
-        assert!(rt; ended_on(alloc, &mut first, &mut own, 1)? == Status::NetFault);
-        assert!(rt; first.sent().is_empty());
-        let kept = if is_taken {
-            b"\x05\x01".as_slice()
-        } else {
-            b"\x05".as_slice()
-        };
-        assert!(rt; kinds(alloc, &mut own)?.as_slice() == kept);
-        let mut again = asks(alloc, &[LS, STOP])?;
-        assert!(rt; ended_on(alloc, &mut again, &mut own, 1)? == Status::Done);
-        let names = if is_taken { NAMES } else { NO_NAMES };
-        assert!(rt; is_answered(alloc, again.sent(), names)?);
+        assert!(rt; is_cut_off(alloc, &mut own, failing)?);
+        assert!(rt; has_kinds(alloc, &mut own, kept)?);
+        assert!(rt; goes_on(alloc, &mut own, LS, names)?);
     }
     Ok(())
 }
@@ -202,17 +228,10 @@ fn a_call_is_kept_though_its_reply_is_not_sent(rt: HostRuntime) -> Result<(), Fa
 fn a_log_is_gone_on_with(rt: HostRuntime) -> Result<(), Fail> {
     let alloc: Global = rt.alloc();
     let mut own = disk(alloc, &[])?;
-    let mut first = asks(alloc, &[MKDIR, STOP])?;
-    assert!(rt; ended_on(alloc, &mut first, &mut own, 1)? == Status::Done);
-    assert!(rt; first.sent().len() == 2);
-    assert!(rt; is_answered(alloc, first.sent(), MADE)?);
-    assert!(rt; kinds(alloc, &mut own)?.as_slice() == b"\x05\x01\x01".as_slice());
-    let mut again = asks(alloc, &[LS, STOP])?;
-    assert!(rt; ended_on(alloc, &mut again, &mut own, 1)? == Status::Done);
-    assert!(rt; again.sent().len() == 2);
-    assert!(rt; is_answered(alloc, again.sent(), NAMES)?);
-    let six = b"\x05\x01\x01\x04\x01\x01".as_slice();
-    assert!(rt; kinds(alloc, &mut own)?.as_slice() == six);
+    assert!(rt; goes_on(alloc, &mut own, MKDIR, MADE)?);
+    assert!(rt; has_kinds(alloc, &mut own, b"\x05\x01\x01")?);
+    assert!(rt; goes_on(alloc, &mut own, LS, NAMES)?);
+    assert!(rt; has_kinds(alloc, &mut own, b"\x05\x01\x01\x04\x01\x01")?);
     Ok(())
 }
 
@@ -255,21 +274,10 @@ fn another_log_is_not_gone_on_with(rt: HostRuntime) -> Result<(), Fail> {
 #[test]
 fn each_call_on_the_disk_fails_in_turn(rt: HostRuntime) -> Result<(), Fail> {
     let alloc: Global = rt.alloc();
-    for fails in 0..16u64 {
-        let mut own = disk(alloc, &[fails])?;
-        let mut calls = asks(alloc, &[MKDIR])?;
-        let status = ended_on(alloc, &mut calls, &mut own, 1)?;
+    for failing in 0..16u64 {
+        let mut own = disk(alloc, &[failing])?;
         // the log is opened, both slots are looked at, and the log is begun, and has the call
-        let is_kept = fails == 15;
-        assert!(rt;
-            status
-                == if is_kept {
-                    Status::TurnsSpent
-                } else {
-                    Status::DiskFault
-                }
-        );
-        assert!(rt; calls.sent().len() == if is_kept { 1 } else { 0 });
+        assert!(rt; is_answered_on(alloc, &mut own, MKDIR, MADE)? == (failing == 15));
     }
     Ok(())
 }
@@ -294,20 +302,28 @@ fn is_answered_on(
     Err(Fail::from("another end"))
 }
 
+/// Whether, where this call on the disk fails, a node that makes `/a` and goes on answers just where
+/// none failed, and lists `/a` where it had answered.
+fn keeps_what_it_answered(alloc: Global, failing: u64) -> Result<bool, Fail> {
+    let mut own = disk(alloc, &[failing])?;
+    if !is_answered_on(alloc, &mut own, MKDIR, MADE)? {
+        return Ok(own.faults() != 0);
+    }
+    if own.faults() != 0 {
+        return Ok(false);
+    }
+    if is_answered_on(alloc, &mut own, LS, NAMES)? {
+        return Ok(own.faults() == 0);
+    }
+    Ok(own.faults() != 0 && is_answered_on(alloc, &mut own, LS, NAMES)?)
+}
+
 /// Each call on the disk fails in turn, while a node begins a log, and while it goes on with one:
 /// what was answered is there in the end.
 #[test]
 fn what_was_answered_is_there_whatever_fails(rt: HostRuntime) -> Result<(), Fail> {
-    let alloc: Global = rt.alloc();
-    for fails in 0..48u64 {
-        let mut own = disk(alloc, &[fails])?;
-        let is_made = is_answered_on(alloc, &mut own, MKDIR, MADE)?;
-        assert!(rt; is_made == (own.faults() == 0));
-        if is_made {
-            let is_listed = is_answered_on(alloc, &mut own, LS, NAMES)?;
-            assert!(rt; is_listed == (own.faults() == 0));
-            assert!(rt; is_listed || is_answered_on(alloc, &mut own, LS, NAMES)?);
-        }
+    for failing in 0..48u64 {
+        assert!(rt; keeps_what_it_answered(rt.alloc(), failing)?);
     }
     Ok(())
 }

@@ -3,7 +3,7 @@ use Rattle.std.proofs.Common.{◌≡◌, ℕ, List, [], ◌++◌, Ok, Some, refl
 use Rattle.std.proofs.lemmas.List.{append-nil}
 use Rattle.pg_base.specs.declared.id.FileId.{FileId}
 use Rattle.pg_base.specs.declared.stamp.Stamp.{Stamp}
-use Rattle.pg_call.specs.declared.refusal.IntentKind.TheVariants as intent
+use Rattle.pg_call.specs.pg_intent.declared.kind.IntentKind.TheVariants as intent
 use Rattle.pg_call.specs.declared.refusal.Refusal.{Refusal}
 use Rattle.pg_call.specs.declared.refusal.Refusal.TheVariants as refusal
 use Rattle.pg_call.specs.declared.refusal.Unsettled.{Unsettled}

@@ -1,7 +1,7 @@
 -- What each refusal says.
 use Rattle.std.specs.Prelude.{List, [], ◌∷◌, Ok}
 use Rattle.pg_base.specs.Id.{Fits}
-use Rattle.pg_call.specs.declared.refusal.IntentKind.TheVariants as intent
+use Rattle.pg_call.specs.pg_intent.declared.kind.IntentKind.TheVariants as intent
 use Rattle.pg_call.specs.declared.refusal.Refusal.{Refusal}
 use Rattle.pg_call.specs.declared.refusal.Refusal.TheVariants as refusal
 use Rattle.pg_call.specs.declared.refusal.Unsettled.{Unsettled}

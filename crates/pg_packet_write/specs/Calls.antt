@@ -8,8 +8,8 @@ use Rattle.pg_call.specs.declared.call.Call.{Call}
 use Rattle.pg_call.specs.declared.call.Call.TheVariants as call
 use Rattle.pg_call.specs.declared.call.Target.{Target}
 use Rattle.pg_call.specs.declared.call.Target.TheVariants as target
-use Rattle.pg_call.specs.declared.refusal.IntentKind.{IntentKind}
-use Rattle.pg_call.specs.declared.refusal.IntentKind.TheVariants as intent
+use Rattle.pg_call.specs.pg_intent.declared.kind.IntentKind.{IntentKind}
+use Rattle.pg_call.specs.pg_intent.declared.kind.IntentKind.TheVariants as intent
 use Rattle.pg_call.specs.declared.refusal.Refusal.{Refusal}
 use Rattle.pg_call.specs.declared.refusal.Refusal.TheVariants as refusal
 use Rattle.pg_call.specs.declared.refusal.Unsettled.{Unsettled}

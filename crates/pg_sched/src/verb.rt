@@ -20,27 +20,50 @@ pub(crate) enum Verb {
     Meter,
 }
 
+/// All verbs.
+const VERBS: [Verb; 11] = [
+    Verb::Tick,
+    Verb::Deliver,
+    Verb::Lose,
+    Verb::Repeat,
+    Verb::Restart,
+    Verb::Remove,
+    Verb::Settle,
+    Verb::Quiet,
+    Verb::Trace,
+    Verb::Show,
+    Verb::Meter,
+];
+
 impl Verb {
     /// The verb that the word is.
     pub(crate) fn read(word: &[u8]) -> Option<Verb>
         ensures found { IfSome result (λ v. word.now ≡ verb_word v) }
         ensures none { IfNone result ((v : Verb) → word.now ≢ verb_word v) }
     {
-        let verb = match word {
-            b"tick" => Verb::Tick,
-            b"deliver" => Verb::Deliver,
-            b"lose" => Verb::Lose,
-            b"repeat" => Verb::Repeat,
-            b"restart" => Verb::Restart,
-            b"remove" => Verb::Remove,
-            b"settle" => Verb::Settle,
-            b"quiet" => Verb::Quiet,
-            b"trace" => Verb::Trace,
-            b"show" => Verb::Show,
-            b"meter" => Verb::Meter,
-            _ => return None,
-        };
-        Some(verb)
+        VERBS
+            .iter()
+            .copied()
+            .find(|verb| verb.word().as_bytes() == word)
+    }
+
+    /// The word that the verb is.
+    fn word(self) -> &'static str
+        ensures { result.now ≡ verb_word self }
+    {
+        match self {
+            Verb::Tick => "tick",
+            Verb::Deliver => "deliver",
+            Verb::Lose => "lose",
+            Verb::Repeat => "repeat",
+            Verb::Restart => "restart",
+            Verb::Remove => "remove",
+            Verb::Settle => "settle",
+            Verb::Quiet => "quiet",
+            Verb::Trace => "trace",
+            Verb::Show => "show",
+            Verb::Meter => "meter",
+        }
     }
 
     /// How many words stand behind it.

@@ -7,4 +7,4 @@ pub use Rattle.pg_calls.proofs.pg_cells as pg_cells
 pub use Rattle.pg_calls.proofs.pg_graph as pg_graph
 pub use Rattle.pg_calls.proofs.pg_intentions as pg_intentions
 pub use Rattle.pg_calls.proofs.pg_checks as pg_checks
-pub mod pg_calls
+pub use Rattle.pg_calls.proofs as pg_calls

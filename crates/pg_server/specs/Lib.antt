@@ -7,4 +7,4 @@ pub use Rattle.pg_calls.specs.pg_repair as pg_repair
 pub use Rattle.pg_calls.specs.pg_intentions as pg_intentions
 pub use Rattle.pg_transfer.specs as pg_transfer
 pub use Rattle.pg_calls.specs.pg_checks as pg_checks
-pub mod pg_calls
+pub use Rattle.pg_calls.specs as pg_calls
