@@ -47,15 +47,15 @@ fn other(alloc: Global, bytes: &[u8]) -> Result<Datagram, AllocError> {
     Ok(Datagram::new(9001, Vec::from_slice(alloc, bytes)?))
 }
 
-/// A call that was made: its net and its sink, and how it ended.
+/// What came of a call: its net and its sink, and how it ended.
 #[derive(Drop)]
-struct Asked {
+struct Outcome {
     net: MemoryNet,
     sink: MemorySink,
     ended: Status,
 }
 
-impl Asked {
+impl Outcome {
     /// Whether it ended so and wrote just this, with so many packets sent and so many takes.
     fn is(&self, ended: Status, written: &[u8], sent: usize, takes: u64) -> bool {
         self.ended == ended
@@ -77,11 +77,11 @@ fn asked(
     packets: Vec<Datagram>,
     net_fails: &[u64],
     sink_fails: &[u64],
-) -> Result<Asked, AllocError> {
+) -> Result<Outcome, AllocError> {
     let mut net = MemoryNet::new(alloc, packets, net_fails.to_vec(alloc)?);
     let mut sink = MemorySink::new(alloc, sink_fails.to_vec(alloc)?);
     let ended = ask(alloc, &mut net, 1, 9000, mkdir(alloc)?, &mut sink);
-    Ok(Asked { net, sink, ended })
+    Ok(Outcome { net, sink, ended })
 }
 
 /// One packet: server 1's reply under this number.
@@ -150,7 +150,7 @@ fn what_is_no_reply_is_passed_over(rt: HostRuntime) -> Result<(), Fail> {
     let mut net = MemoryNet::new(alloc, two_and_two(alloc)?, Vec::new(alloc));
     let mut sink = MemorySink::new(alloc, Vec::new(alloc));
     let ended = ask(alloc, &mut net, 64, 65_471, Request::Tick, &mut sink);
-    let call = Asked { net, sink, ended };
+    let call = Outcome { net, sink, ended };
     assert!(rt; call.is(Status::Done, b"done\n", 1, 3) && call.went_to(65_535));
     Ok(())
 }
