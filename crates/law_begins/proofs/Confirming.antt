@@ -1,35 +1,35 @@
 -- In every event of every run: nothing else begins a Confirm.
 use Rattle.std.proofs.Common.{ℕ, ◌≡◌, ◌⊎◌, Bool, true, false, cond, Option, None, Some, is_some, eq-eqb, inl, inr, refl, sym, ap, subst, ◌∙◌, ◌/◌, ◌%◌, ◌==◌, length, slice_get}
 use Rattle.std.proofs.lemmas.Bool.{false≢true}
-use Rattle.law_order.specs.pg_base.declared.id.FileId.{FileId}
-use Rattle.law_order.specs.pg_call.declared.reply.Reply.{Reply}
-use Rattle.law_order.specs.pg_entries.declared.cell.Cell.TheVariants as cells
-use Rattle.law_order.specs.pg_entries.declared.entry.Entry.{Entry}
-use Rattle.law_order.specs.pg_intent.declared.intent.Intent.{Intent}
-use Rattle.law_order.specs.pg_intent.Intents.{intent_at}
-use Rattle.law_order.specs.pg_msg.declared.message.Ends.{Ends}
-use Rattle.law_order.specs.pg_msg.declared.message.Message.{Message}
-use Rattle.law_order.specs.pg_msg.declared.message.Message.TheVariants as message
-use Rattle.law_order.specs.pg_msg.declared.message.Packet.{Packet}
-use Rattle.law_order.specs.pg_msg.declared.work.Work.{Work}
-use Rattle.law_order.specs.pg_msg.Work.{new_work}
-use Rattle.law_order.specs.pg_cells.Cells.{cell}
-use Rattle.law_order.specs.pg_cells.Ticks.{tick}
-use Rattle.law_order.specs.pg_edges.declared.edge.Edge.{Edge}
-use Rattle.law_order.specs.pg_graph.Walks.{edges_of, most_hops, walk_along, walk_from, walk_of, walk_of_tick, with_few_edges}
-use Rattle.law_order.specs.pg_intentions.Requests.{ask_all}
-use Rattle.law_order.specs.pg_store.Births.{birth_of}
-use Rattle.law_order.specs.pg_pieces.Done.{Done, idle}
-use Rattle.law_order.specs.pg_server.declared.input.Input.{Input}
-use Rattle.law_order.specs.pg_server.declared.input.Input.TheVariants as input
-use Rattle.law_order.specs.pg_server.Local.{Effect, closed, effect, finished, first_effect, is_heard, receive, reply_to, ticked, without_sources}
-use Rattle.law_order.specs.pg_store.declared.store.Store.{Store}
-use Rattle.law_order.specs.pg_store.Seen.{server_of}
-use Rattle.law_order.specs.pg_store.Store.{is_before_clock_end}
-use Rattle.law_order.specs.pg_run.Run.{Step, next, run}
-use Rattle.law_order.proofs.pg_intent.Found.{stands_is}
-use Rattle.law_order.proofs.pg_run.Frame.{next_is}
-use Rattle.law_order.proofs.theory_flood_pieces.Choices.{chosen}
+use Rattle.law_frame.specs.pg_run.pg_base.declared.id.FileId.{FileId}
+use Rattle.law_frame.specs.pg_run.pg_call.declared.reply.Reply.{Reply}
+use Rattle.law_frame.specs.pg_run.pg_entries.declared.cell.Cell.TheVariants as cells
+use Rattle.law_frame.specs.pg_run.pg_entries.declared.entry.Entry.{Entry}
+use Rattle.law_frame.specs.pg_run.pg_intent.declared.intent.Intent.{Intent}
+use Rattle.law_frame.specs.pg_run.pg_intent.Intents.{intent_at}
+use Rattle.law_frame.specs.pg_run.pg_msg.declared.message.Ends.{Ends}
+use Rattle.law_frame.specs.pg_run.pg_msg.declared.message.Message.{Message}
+use Rattle.law_frame.specs.pg_run.pg_msg.declared.message.Message.TheVariants as message
+use Rattle.law_frame.specs.pg_run.pg_msg.declared.message.Packet.{Packet}
+use Rattle.law_frame.specs.pg_run.pg_msg.declared.work.Work.{Work}
+use Rattle.law_frame.specs.pg_run.pg_msg.Work.{new_work}
+use Rattle.law_frame.specs.pg_run.pg_cells.Cells.{cell}
+use Rattle.law_frame.specs.pg_run.pg_cells.Ticks.{tick}
+use Rattle.law_frame.specs.pg_run.pg_edges.declared.edge.Edge.{Edge}
+use Rattle.law_frame.specs.pg_run.pg_graph.Walks.{edges_of, most_hops, walk_along, walk_from, walk_of, walk_of_tick, with_few_edges}
+use Rattle.law_frame.specs.pg_run.pg_intentions.Requests.{ask_all}
+use Rattle.law_frame.specs.pg_run.pg_store.Births.{birth_of}
+use Rattle.law_frame.specs.pg_run.pg_pieces.Done.{Done, idle}
+use Rattle.law_frame.specs.pg_run.pg_server.declared.input.Input.{Input}
+use Rattle.law_frame.specs.pg_run.pg_server.declared.input.Input.TheVariants as input
+use Rattle.law_frame.specs.pg_run.pg_server.Local.{Effect, closed, effect, finished, first_effect, is_heard, receive, reply_to, ticked, without_sources}
+use Rattle.law_frame.specs.pg_run.pg_store.declared.store.Store.{Store}
+use Rattle.law_frame.specs.pg_run.pg_store.Seen.{server_of}
+use Rattle.law_frame.specs.pg_run.pg_store.Store.{is_before_clock_end}
+use Rattle.law_frame.specs.pg_run.Run.{Step, next, run}
+use Rattle.law_frame.proofs.pg_run.pg_intent.Found.{stands_is}
+use Rattle.law_frame.proofs.pg_run.Frame.{next_is}
+use Rattle.law_frame.proofs.pg_run.theory_flood_pieces.Choices.{chosen}
 use Rattle.law_begins.specs.Confirms.{BringsDoubt, ConfirmsBeginOnly, EntersView, IsDoubted, IsLater}
 use Rattle.law_begins.proofs.Calls.{called}
 use Rattle.law_begins.proofs.Doubted.{doubted}

@@ -3,29 +3,29 @@
 use Rattle.std.proofs.Common.{ℕ, ◌≡◌, ◌&&◌, ◌++◌, ◌⊎◌, Bool, true, false, cond, not, List, [], ◌∷◌, Option, None, Some, inl, inr, refl, sym, ap, subst, ◌∙◌}
 use Rattle.std.proofs.lemmas.Bool.{false≢true}
 use Rattle.std.proofs.lemmas.Option.{none-some, same_Some}
-use Rattle.law_order.specs.pg_base.declared.id.FileId.{FileId}
-use Rattle.law_order.specs.pg_base.Stamp.{is_before}
-use Rattle.law_order.specs.pg_entries.declared.cell.Cell.TheVariants as cells
-use Rattle.law_order.specs.pg_entries.declared.entry.Entry.{Entry}
-use Rattle.law_order.specs.pg_entries.Entry.{covers as covers_entry, entry_of}
-use Rattle.law_order.specs.pg_intent.declared.key.IntentKey.{IntentKey}
-use Rattle.law_order.specs.pg_intent.Intents.{intent_at}
-use Rattle.law_order.specs.pg_msg.declared.message.Ends.{Ends}
-use Rattle.law_order.specs.pg_msg.declared.work.Slot.{Slot}
-use Rattle.law_order.specs.pg_msg.declared.work.Work.{Work}
-use Rattle.law_order.specs.pg_msg.Work.{with_unsure}
-use Rattle.law_order.specs.pg_names.Names.{InodeValue, NamesValue, entry_in, known}
-use Rattle.law_order.specs.pg_cells.Cells.{cell, fits, taken_along}
-use Rattle.law_order.specs.pg_pieces.declared.accepting.EdgeUse.TheVariants as manner
-use Rattle.law_order.specs.pg_pieces.Accepting.{accept, is_accepted, link_peer, with_gone}
-use Rattle.law_order.specs.pg_pieces.Done.{Done, idle}
-use Rattle.law_order.specs.pg_pieces.Taking.{is_place_news, take_entry_noted}
-use Rattle.law_order.specs.pg_store.declared.store.Store.{Store}
-use Rattle.law_order.specs.pg_store.declared.taking.EntryNews.TheVariants as news
-use Rattle.law_order.specs.pg_store.Births.{has_birth}
-use Rattle.law_order.specs.pg_store.Links.{is_new_link, knows_later, put_link}
-use Rattle.law_order.specs.pg_store.Store.{entry_news, news_beside, news_in}
-use Rattle.law_order.proofs.theory_flood_pieces.Choices.{chosen}
+use Rattle.law_frame.specs.pg_run.pg_base.declared.id.FileId.{FileId}
+use Rattle.law_frame.specs.pg_run.pg_base.Stamp.{is_before}
+use Rattle.law_frame.specs.pg_run.pg_entries.declared.cell.Cell.TheVariants as cells
+use Rattle.law_frame.specs.pg_run.pg_entries.declared.entry.Entry.{Entry}
+use Rattle.law_frame.specs.pg_run.pg_entries.Entry.{covers as covers_entry, entry_of}
+use Rattle.law_frame.specs.pg_run.pg_intent.declared.key.IntentKey.{IntentKey}
+use Rattle.law_frame.specs.pg_run.pg_intent.Intents.{intent_at}
+use Rattle.law_frame.specs.pg_run.pg_msg.declared.message.Ends.{Ends}
+use Rattle.law_frame.specs.pg_run.pg_msg.declared.work.Slot.{Slot}
+use Rattle.law_frame.specs.pg_run.pg_msg.declared.work.Work.{Work}
+use Rattle.law_frame.specs.pg_run.pg_msg.Work.{with_unsure}
+use Rattle.law_frame.specs.pg_run.pg_names.Names.{InodeValue, NamesValue, entry_in, known}
+use Rattle.law_frame.specs.pg_run.pg_cells.Cells.{cell, fits, taken_along}
+use Rattle.law_frame.specs.pg_run.pg_pieces.declared.accepting.EdgeUse.TheVariants as manner
+use Rattle.law_frame.specs.pg_run.pg_pieces.Accepting.{accept, is_accepted, link_peer, with_gone}
+use Rattle.law_frame.specs.pg_run.pg_pieces.Done.{Done, idle}
+use Rattle.law_frame.specs.pg_run.pg_pieces.Taking.{is_place_news, take_entry_noted}
+use Rattle.law_frame.specs.pg_run.pg_store.declared.store.Store.{Store}
+use Rattle.law_frame.specs.pg_run.pg_store.declared.taking.EntryNews.TheVariants as news
+use Rattle.law_frame.specs.pg_run.pg_store.Births.{has_birth}
+use Rattle.law_frame.specs.pg_run.pg_store.Links.{is_new_link, knows_later, put_link}
+use Rattle.law_frame.specs.pg_run.pg_store.Store.{entry_news, news_beside, news_in}
+use Rattle.law_frame.proofs.pg_run.theory_flood_pieces.Choices.{chosen}
 use Rattle.law_begins.specs.Confirms.{IsLater}
 use Rattle.law_begins.proofs.Pieces.{IsPlain, Rests, accept_makes, entry_none, entry_rests}
 

@@ -1,36 +1,36 @@
 -- The end of an event: of a Confirm of which none stood, one stands only where its cell was noted.
 use Rattle.std.proofs.Common.{◌≡◌, ◌⊎◌, Bool, true, false, cond, List, [], ◌∷◌, Option, None, inl, inr, refl, sym, ap, ◌∙◌}
 use Rattle.std.proofs.lemmas.Bool.{and_parts}
-use Rattle.law_order.specs.pg_base.declared.id.FileId.{FileId}
-use Rattle.law_order.specs.pg_base.Id.{is_same_file}
-use Rattle.law_order.specs.pg_edges.declared.key.Key.TheVariants as key
-use Rattle.law_order.specs.pg_intent.declared.intent.Intent.{Intent}
-use Rattle.law_order.specs.pg_intent.declared.key.IntentKey.{IntentKey}
-use Rattle.law_order.specs.pg_intent.declared.key.IntentKey.TheVariants as intent_key
-use Rattle.law_order.specs.pg_intent.Intents.{intent_at}
-use Rattle.law_order.specs.pg_intent.Key.{is_same_key}
-use Rattle.law_order.specs.pg_msg.declared.update.Update.TheVariants as update
-use Rattle.law_order.specs.pg_msg.declared.work.Slot.{Slot}
-use Rattle.law_order.specs.pg_msg.declared.work.Work.{Work}
-use Rattle.law_order.specs.pg_msg.Work.{with_made}
-use Rattle.law_order.specs.pg_cells.Settling.{settle}
-use Rattle.law_order.specs.pg_pieces.Done.{Done, idle}
-use Rattle.law_order.specs.pg_pieces.Making.{own_next}
-use Rattle.law_order.specs.pg_house.Work.{state_of}
-use Rattle.law_order.specs.pg_intentions.Beginning.{begin_end, end_others, still_stands}
-use Rattle.law_order.specs.pg_intentions.Confirms.{begin_confirm, confirm_of, is_doubtful}
-use Rattle.law_order.specs.pg_intentions.Fills.{begin_fill, begin_fills, files_to_fill, to_fill}
-use Rattle.law_order.specs.pg_intentions.Intending.{begin_intent, each, in_order}
-use Rattle.law_order.specs.pg_intentions.Patches.{begin_patch, begin_patches}
-use Rattle.law_order.specs.pg_intentions.Seeks.{begin_seek, begin_seeks, to_seek}
-use Rattle.law_order.specs.pg_store.declared.store.Store.{Store}
-use Rattle.law_order.specs.pg_store.Store.{is_newer_flag}
-use Rattle.law_order.proofs.pg_base.Orders.{is_same_file-true}
-use Rattle.law_order.proofs.pg_cells.Settled.{settle_keeps}
-use Rattle.law_order.proofs.pg_intentions.Standing.{begun_other, each_at, fill_other, filtered, patch_at, seek_other, tested_too}
-use Rattle.law_order.proofs.pg_intentions.Steady.{each_stays, fill_stays, patch_stays, seek_stays}
+use Rattle.law_frame.specs.pg_run.pg_base.declared.id.FileId.{FileId}
+use Rattle.law_frame.specs.pg_run.pg_base.Id.{is_same_file}
+use Rattle.law_frame.specs.pg_run.pg_edges.declared.key.Key.TheVariants as key
+use Rattle.law_frame.specs.pg_run.pg_intent.declared.intent.Intent.{Intent}
+use Rattle.law_frame.specs.pg_run.pg_intent.declared.key.IntentKey.{IntentKey}
+use Rattle.law_frame.specs.pg_run.pg_intent.declared.key.IntentKey.TheVariants as intent_key
+use Rattle.law_frame.specs.pg_run.pg_intent.Intents.{intent_at}
+use Rattle.law_frame.specs.pg_run.pg_intent.Key.{is_same_key}
+use Rattle.law_frame.specs.pg_run.pg_msg.declared.update.Update.TheVariants as update
+use Rattle.law_frame.specs.pg_run.pg_msg.declared.work.Slot.{Slot}
+use Rattle.law_frame.specs.pg_run.pg_msg.declared.work.Work.{Work}
+use Rattle.law_frame.specs.pg_run.pg_msg.Work.{with_made}
+use Rattle.law_frame.specs.pg_run.pg_cells.Settling.{settle}
+use Rattle.law_frame.specs.pg_run.pg_pieces.Done.{Done, idle}
+use Rattle.law_frame.specs.pg_run.pg_pieces.Making.{own_next}
+use Rattle.law_frame.specs.pg_run.pg_house.Work.{state_of}
+use Rattle.law_frame.specs.pg_run.pg_intentions.Beginning.{begin_end, end_others, still_stands}
+use Rattle.law_frame.specs.pg_run.pg_intentions.Confirms.{begin_confirm, confirm_of, is_doubtful}
+use Rattle.law_frame.specs.pg_run.pg_intentions.Fills.{begin_fill, begin_fills, files_to_fill, to_fill}
+use Rattle.law_frame.specs.pg_run.pg_intentions.Intending.{begin_intent, each, in_order}
+use Rattle.law_frame.specs.pg_run.pg_intentions.Patches.{begin_patch, begin_patches}
+use Rattle.law_frame.specs.pg_run.pg_intentions.Seeks.{begin_seek, begin_seeks, to_seek}
+use Rattle.law_frame.specs.pg_run.pg_store.declared.store.Store.{Store}
+use Rattle.law_frame.specs.pg_run.pg_store.Store.{is_newer_flag}
+use Rattle.law_frame.proofs.pg_run.pg_base.Orders.{is_same_file-true}
+use Rattle.law_frame.proofs.pg_run.pg_cells.Settled.{settle_keeps}
+use Rattle.law_frame.proofs.pg_run.pg_intentions.Standing.{begun_other, each_at, fill_other, filtered, patch_at, seek_other, tested_too}
+use Rattle.law_frame.proofs.pg_run.pg_intentions.Steady.{each_stays, fill_stays, patch_stays, seek_stays}
 use Rattle.law_order.proofs.Sounding.{rules_intents}
-use Rattle.law_order.proofs.theory_flood_pieces.Choices.{chosen}
+use Rattle.law_frame.proofs.pg_run.theory_flood_pieces.Choices.{chosen}
 use Rattle.theory_listing_house.proofs.Works.{house_unsure}
 use Rattle.law_begins.proofs.Pieces.{IsPlain, flag_none, news_doubts}
 

@@ -1,24 +1,24 @@
 -- Each message leaves keys at rest, but a cell of whose place its sender is not sure.
 use Rattle.std.proofs.Common.{◌≡◌, ◌&&◌, Bool, true, false, cond, not, refl, sym, ap, ◌∙◌}
 use Rattle.std.proofs.lemmas.Bool.{false≢true}
-use Rattle.law_order.specs.pg_base.declared.id.FileId.{FileId}
-use Rattle.law_order.specs.pg_entries.declared.cell.Cell.TheVariants as cells
-use Rattle.law_order.specs.pg_entries.declared.entry.Entry.{Entry}
-use Rattle.law_order.specs.pg_intent.declared.key.IntentKey.{IntentKey}
-use Rattle.law_order.specs.pg_intent.declared.key.IntentKey.TheVariants as intent_key
-use Rattle.law_order.specs.pg_msg.declared.message.Message.{Message}
-use Rattle.law_order.specs.pg_msg.declared.message.Message.TheVariants as message
-use Rattle.law_order.specs.pg_msg.declared.work.Work.{Work}
-use Rattle.law_order.specs.pg_msg.Work.{with_unsure}
-use Rattle.law_order.specs.pg_store.declared.store.Store.{Store}
-use Rattle.law_order.specs.pg_store.Births.{birth_of}
-use Rattle.law_order.specs.pg_store.Store.{entry_news}
-use Rattle.law_order.specs.pg_pieces.Done.{Done, idle}
-use Rattle.law_order.specs.pg_pieces.Making.{own_next}
-use Rattle.law_order.specs.pg_pieces.Taking.{is_place_news, take_entry_cell, take_entry_noted}
-use Rattle.law_order.specs.pg_graph.Leaving.{bye_to}
-use Rattle.law_order.specs.pg_repair.Granting.{granted_own}
-use Rattle.law_order.specs.pg_server.Local.{receive}
+use Rattle.law_frame.specs.pg_run.pg_base.declared.id.FileId.{FileId}
+use Rattle.law_frame.specs.pg_run.pg_entries.declared.cell.Cell.TheVariants as cells
+use Rattle.law_frame.specs.pg_run.pg_entries.declared.entry.Entry.{Entry}
+use Rattle.law_frame.specs.pg_run.pg_intent.declared.key.IntentKey.{IntentKey}
+use Rattle.law_frame.specs.pg_run.pg_intent.declared.key.IntentKey.TheVariants as intent_key
+use Rattle.law_frame.specs.pg_run.pg_msg.declared.message.Message.{Message}
+use Rattle.law_frame.specs.pg_run.pg_msg.declared.message.Message.TheVariants as message
+use Rattle.law_frame.specs.pg_run.pg_msg.declared.work.Work.{Work}
+use Rattle.law_frame.specs.pg_run.pg_msg.Work.{with_unsure}
+use Rattle.law_frame.specs.pg_run.pg_store.declared.store.Store.{Store}
+use Rattle.law_frame.specs.pg_run.pg_store.Births.{birth_of}
+use Rattle.law_frame.specs.pg_run.pg_store.Store.{entry_news}
+use Rattle.law_frame.specs.pg_run.pg_pieces.Done.{Done, idle}
+use Rattle.law_frame.specs.pg_run.pg_pieces.Making.{own_next}
+use Rattle.law_frame.specs.pg_run.pg_pieces.Taking.{is_place_news, take_entry_cell, take_entry_noted}
+use Rattle.law_frame.specs.pg_run.pg_graph.Leaving.{bye_to}
+use Rattle.law_frame.specs.pg_run.pg_repair.Granting.{granted_own}
+use Rattle.law_frame.specs.pg_run.pg_server.Local.{receive}
 use Rattle.law_frame.proofs.Keeps.{Keeps}
 use Rattle.law_frame.proofs.Received.{receive_keeps}
 use Rattle.law_begins.proofs.Pieces.{IsPlain, Rests, aimed_none, begin_none, begun_rests, ended_none, entry_rests, flag_rests, linked_rests, place_rests, raised_rests, unlink_none, version_rests}

@@ -1,22 +1,22 @@
 -- When a Confirm may begin.
 use Rattle.std.specs.Prelude.{ℕ, ◌≡◌, ◌⊎◌, true, false, List, Some, Ok}
-use Rattle.law_order.specs.pg_base.declared.id.FileId.{FileId}
-use Rattle.law_order.specs.pg_base.Stamp.{is_before}
-use Rattle.law_order.specs.pg_call.declared.call.Call.TheVariants.{Giveup}
-use Rattle.law_order.specs.pg_calls.GivingUp.{removal_at}
-use Rattle.law_order.specs.pg_entries.declared.cell.Cell.TheVariants as cells
-use Rattle.law_order.specs.pg_entries.declared.entry.Entry.{Entry}
-use Rattle.law_order.specs.pg_event.declared.event.Event.{Event}
-use Rattle.law_order.specs.pg_intent.declared.key.IntentKey.TheVariants as key
-use Rattle.law_order.specs.pg_intent.Intents.{stands}
-use Rattle.law_order.specs.pg_msg.declared.message.Message.{Message}
-use Rattle.law_order.specs.pg_msg.declared.message.Message.TheVariants as message
-use Rattle.law_order.specs.pg_names.Names.{cell_at}
-use Rattle.law_order.specs.pg_server.declared.input.Input.{Input}
-use Rattle.law_order.specs.pg_server.declared.input.Input.TheVariants as input
-use Rattle.law_order.specs.pg_store.declared.store.Store.{Store}
-use Rattle.law_order.specs.pg_run.Laws.{TakesIn}
-use Rattle.law_order.specs.pg_run.Run.{next, run}
+use Rattle.law_frame.specs.pg_run.pg_base.declared.id.FileId.{FileId}
+use Rattle.law_frame.specs.pg_run.pg_base.Stamp.{is_before}
+use Rattle.law_frame.specs.pg_run.pg_call.declared.call.Call.TheVariants.{Giveup}
+use Rattle.law_frame.specs.pg_run.pg_calls.GivingUp.{removal_at}
+use Rattle.law_frame.specs.pg_run.pg_entries.declared.cell.Cell.TheVariants as cells
+use Rattle.law_frame.specs.pg_run.pg_entries.declared.entry.Entry.{Entry}
+use Rattle.law_frame.specs.pg_run.pg_event.declared.event.Event.{Event}
+use Rattle.law_frame.specs.pg_run.pg_intent.declared.key.IntentKey.TheVariants as key
+use Rattle.law_frame.specs.pg_run.pg_intent.Intents.{stands}
+use Rattle.law_frame.specs.pg_run.pg_msg.declared.message.Message.{Message}
+use Rattle.law_frame.specs.pg_run.pg_msg.declared.message.Message.TheVariants as message
+use Rattle.law_frame.specs.pg_run.pg_names.Names.{cell_at}
+use Rattle.law_frame.specs.pg_run.pg_server.declared.input.Input.{Input}
+use Rattle.law_frame.specs.pg_run.pg_server.declared.input.Input.TheVariants as input
+use Rattle.law_frame.specs.pg_run.pg_store.declared.store.Store.{Store}
+use Rattle.law_frame.specs.pg_run.Laws.{TakesIn}
+use Rattle.law_frame.specs.pg_run.Run.{next, run}
 
 -- where the directory has a place of the child, this one is later
 abbrev pub IsLater : Store → FileId → Entry → Type 0

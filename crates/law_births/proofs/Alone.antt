@@ -2,32 +2,32 @@
 use Rattle.std.proofs.Common.{ℕ, ◌≡◌, ◌≤◌, ◌<◌, ◌==◌, ◌++◌, ◌⊎◌, arith, Bool, true, false, cond, List, [], ◌∷◌, Option, None, Some, is_some, inl, inr, refl, sym, ap, subst, ◌∙◌, eq-eqb}
 use Rattle.std.specs.Option.{option_map}
 use Rattle.std.proofs.lemmas.Bool.{eqb-true, false≢true}
-use Rattle.law_order.specs.pg_base.declared.id.FileId.{FileId}
-use Rattle.law_order.specs.pg_base.Id.{file_cmp, is_same_file}
-use Rattle.law_order.proofs.pg_base.Maps.{lookup-insert_entry}
-use Rattle.law_order.proofs.pg_base.Orders.{file_total, is_same_file-true}
-use Rattle.law_order.specs.pg_edges.declared.edge.Edge.{Edge}
-use Rattle.law_order.specs.pg_edges.Edges.{edge_to, is_listed}
-use Rattle.law_order.specs.pg_event.declared.event.Event.{Event}
-use Rattle.law_order.specs.pg_intent.declared.intent.Intent.{Intent}
-use Rattle.law_order.specs.pg_intent.declared.intent.Intent.TheVariants as intent
-use Rattle.law_order.specs.pg_register.Place.{root}
-use Rattle.law_order.specs.pg_replica.declared.replica.Replica.{Replica}
-use Rattle.law_order.specs.pg_replica.Root.{first_root}
-use Rattle.law_order.specs.pg_server.declared.input.Input.TheVariants as input
-use Rattle.law_order.specs.pg_server.Local.{effect, first_effect}
-use Rattle.law_order.specs.pg_store.declared.store.Store.{Store}
-use Rattle.law_order.specs.pg_store.declared.wishes.Wish.{Wish}
-use Rattle.law_order.specs.pg_store.Births.{fill_at, wish_at}
-use Rattle.law_order.specs.pg_store.Store.{is_held, new_store, replica_at}
-use Rattle.law_order.specs.pg_store.Together.{BirthsMove, birth_at}
-use Rattle.law_order.proofs.pg_store.Over.{moves_itself as births_stay, moves_then}
-use Rattle.law_order.proofs.pg_store.Pairs.{start_together}
-use Rattle.law_order.proofs.pg_store.Wishing.{start_births}
-use Rattle.law_order.specs.pg_run.Births.{BirthIsAlone, BirthsAreAlone, BirthsAreOfOneThing, BirthsMoveInEvents, BirthsMoveOn, EdgesGoUp, GreaterBirthsReplaceEdges, IsBirthAt, LinksNameTheSender, ReplicasStayOrGo, WasGivenOut}
-use Rattle.law_order.specs.pg_run.Laws.{store_after}
-use Rattle.law_order.specs.pg_run.Run.{Step, Taking, World, next, run, start, taking_in}
-use Rattle.law_order.proofs.pg_run.Frame.{Acts, IsFramed, acts_is, framed, next_is, run_more}
+use Rattle.pg_run.specs.pg_base.declared.id.FileId.{FileId}
+use Rattle.pg_run.specs.pg_base.Id.{file_cmp, is_same_file}
+use Rattle.pg_run.proofs.pg_base.Maps.{lookup-insert_entry}
+use Rattle.pg_run.proofs.pg_base.Orders.{file_total, is_same_file-true}
+use Rattle.pg_run.specs.pg_edges.declared.edge.Edge.{Edge}
+use Rattle.pg_run.specs.pg_edges.Edges.{edge_to, is_listed}
+use Rattle.pg_run.specs.pg_event.declared.event.Event.{Event}
+use Rattle.pg_run.specs.pg_intent.declared.intent.Intent.{Intent}
+use Rattle.pg_run.specs.pg_intent.declared.intent.Intent.TheVariants as intent
+use Rattle.pg_run.specs.pg_register.Place.{root}
+use Rattle.pg_run.specs.pg_replica.declared.replica.Replica.{Replica}
+use Rattle.pg_run.specs.pg_replica.Root.{first_root}
+use Rattle.pg_run.specs.pg_server.declared.input.Input.TheVariants as input
+use Rattle.pg_run.specs.pg_server.Local.{effect, first_effect}
+use Rattle.pg_run.specs.pg_store.declared.store.Store.{Store}
+use Rattle.pg_run.specs.pg_store.declared.wishes.Wish.{Wish}
+use Rattle.pg_run.specs.pg_store.Births.{fill_at, wish_at}
+use Rattle.pg_run.specs.pg_store.Store.{is_held, new_store, replica_at}
+use Rattle.pg_run.specs.pg_store.Together.{BirthsMove, birth_at}
+use Rattle.pg_run.proofs.pg_store.Over.{moves_itself as births_stay, moves_then}
+use Rattle.pg_run.proofs.pg_store.Pairs.{start_together}
+use Rattle.pg_run.proofs.pg_store.Wishing.{start_births}
+use Rattle.pg_run.specs.Births.{BirthIsAlone, BirthsAreAlone, BirthsAreOfOneThing, BirthsMoveInEvents, BirthsMoveOn, EdgesGoUp, GreaterBirthsReplaceEdges, IsBirthAt, LinksNameTheSender, ReplicasStayOrGo, WasGivenOut}
+use Rattle.pg_run.specs.Laws.{store_after}
+use Rattle.pg_run.specs.Run.{Step, Taking, World, next, run, start, taking_in}
+use Rattle.pg_run.proofs.Frame.{Acts, IsFramed, acts_is, framed, next_is, run_more}
 use Rattle.law_births.specs.Premises.{FillsAlwaysStand, NextIdsAreFree}
 use Rattle.law_births.proofs.Effects.{Lists, arrival_lists, effect_moves, end_moves, first_moves, lets_in_any}
 use Rattle.law_births.proofs.Ends.{born_to, born_to-edge, ends, listed_born}

@@ -1,28 +1,28 @@
 -- Births where a wish or a Fill comes, where these ask another server, and where a replica begins.
 use Rattle.std.proofs.Common.{ℕ, ◌≡◌, ◌≤◌, ◌+◌, ◌⊎◌, arith, Bool, true, false, cond, Option, None, Some, is_some, inl, inr, refl, sym, ap, subst, ◌∙◌}
-use Rattle.law_order.specs.pg_base.declared.id.FileId.{FileId}
-use Rattle.law_order.specs.pg_base.declared.policy.Policy.{Policy}
-use Rattle.law_order.specs.pg_base.Id.{is_same_file}
-use Rattle.law_order.proofs.pg_base.Orders.{is_same_file-true}
-use Rattle.law_order.specs.pg_intent.declared.intent.Intent.{Intent}
-use Rattle.law_order.specs.pg_intent.declared.intent.Intent.TheVariants as intent
-use Rattle.law_order.specs.pg_intent.declared.key.IntentKey.{IntentKey}
-use Rattle.law_order.specs.pg_names.declared.attributes.Attributes.{Attributes}
-use Rattle.law_order.specs.pg_names.Names.{known, new_held}
-use Rattle.law_order.specs.pg_replica.Replica.{new_replica}
-use Rattle.law_order.specs.pg_store.declared.store.Store.{Store}
-use Rattle.law_order.specs.pg_store.declared.wishes.Wish.{Wish}
-use Rattle.law_order.specs.pg_store.Store.{is_held, replica_at}
-use Rattle.law_order.specs.pg_store.Beginning.{begin, patches_of, put_new, with_intents}
-use Rattle.law_order.specs.pg_store.Births.{draw_birth, fill_at, is_pending, wish_at, with_birth, with_wish, with_wishes}
-use Rattle.law_order.specs.pg_store.Wishes.{aim_wish}
-use Rattle.law_order.specs.pg_store.Together.{AreBirths, IsGiven, MayBegin}
-use Rattle.law_order.specs.pg_intent.Intents.{aimed}
-use Rattle.law_order.proofs.pg_store.Pairs.{begin_together, patches_as_before}
-use Rattle.law_order.proofs.pg_store.Given.{begin_births, born_behind, born_by, held_behind, left_by, pending_may}
-use Rattle.law_order.proofs.pg_store.Wanted.{wish_behind}
-use Rattle.law_order.proofs.pg_store.Wishing.{wish_births, wish_there}
-use Rattle.law_order.proofs.pg_store.Aiming.{aim_births, aim_was, aimed_births, aimed_there}
+use Rattle.pg_run.specs.pg_base.declared.id.FileId.{FileId}
+use Rattle.pg_run.specs.pg_base.declared.policy.Policy.{Policy}
+use Rattle.pg_run.specs.pg_base.Id.{is_same_file}
+use Rattle.pg_run.proofs.pg_base.Orders.{is_same_file-true}
+use Rattle.pg_run.specs.pg_intent.declared.intent.Intent.{Intent}
+use Rattle.pg_run.specs.pg_intent.declared.intent.Intent.TheVariants as intent
+use Rattle.pg_run.specs.pg_intent.declared.key.IntentKey.{IntentKey}
+use Rattle.pg_run.specs.pg_names.declared.attributes.Attributes.{Attributes}
+use Rattle.pg_run.specs.pg_names.Names.{known, new_held}
+use Rattle.pg_run.specs.pg_replica.Replica.{new_replica}
+use Rattle.pg_run.specs.pg_store.declared.store.Store.{Store}
+use Rattle.pg_run.specs.pg_store.declared.wishes.Wish.{Wish}
+use Rattle.pg_run.specs.pg_store.Store.{is_held, replica_at}
+use Rattle.pg_run.specs.pg_store.Beginning.{begin, patches_of, put_new, with_intents}
+use Rattle.pg_run.specs.pg_store.Births.{draw_birth, fill_at, is_pending, wish_at, with_birth, with_wish, with_wishes}
+use Rattle.pg_run.specs.pg_store.Wishes.{aim_wish}
+use Rattle.pg_run.specs.pg_store.Together.{AreBirths, IsGiven, MayBegin}
+use Rattle.pg_run.specs.pg_intent.Intents.{aimed}
+use Rattle.pg_run.proofs.pg_store.Pairs.{begin_together, patches_as_before}
+use Rattle.pg_run.proofs.pg_store.Given.{begin_births, born_behind, born_by, held_behind, left_by, pending_may}
+use Rattle.pg_run.proofs.pg_store.Wanted.{wish_behind}
+use Rattle.pg_run.proofs.pg_store.Wishing.{wish_births, wish_there}
+use Rattle.pg_run.proofs.pg_store.Aiming.{aim_births, aim_was, aimed_births, aimed_there}
 use Rattle.law_births.proofs.Has.{Goes, Has, IsAlone, has_back, none_new, one_new, to_has}
 
 -- a birth that was given out is not forgotten

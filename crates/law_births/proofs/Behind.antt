@@ -1,26 +1,26 @@
 -- What is said of births and flags is said behind each piece of a message.
 use Rattle.std.proofs.Common.{ℕ, ◌≡◌, Bool, true, false, refl, sym, ◌∙◌}
-use Rattle.law_order.specs.pg_base.declared.id.FileId.{FileId}
-use Rattle.law_order.specs.pg_base.Version.{VersionValue}
-use Rattle.law_order.specs.pg_entries.declared.entry.Entry.{Entry}
-use Rattle.law_order.specs.pg_intent.declared.key.IntentKey.{IntentKey}
-use Rattle.law_order.specs.pg_intent.Intents.{aimed}
-use Rattle.law_order.specs.pg_msg.declared.message.Message.{Message}
-use Rattle.law_order.specs.pg_msg.declared.message.Message.TheVariants as message
-use Rattle.law_order.specs.pg_register.declared.flag.Flag.{Flag}
-use Rattle.law_order.specs.pg_register.declared.place.Place.{Place}
-use Rattle.law_order.specs.pg_store.declared.store.Store.{Store}
-use Rattle.law_order.specs.pg_store.Beginning.{with_intents}
-use Rattle.law_order.specs.pg_store.Store.{is_held}
-use Rattle.law_order.specs.pg_store.Together.{HoldsAsBefore, birth_at}
-use Rattle.law_order.proofs.pg_store.Pairs.{link_as_before}
-use Rattle.law_order.specs.pg_pieces.Accepting.{link_peer}
-use Rattle.law_order.specs.pg_pieces.Done.{Done, idle}
-use Rattle.law_order.specs.pg_msg.Work.{with_tail}
-use Rattle.law_order.specs.pg_pieces.Posting.{post, sent_to}
-use Rattle.law_order.specs.pg_pieces.Taking.{take_entry_cell, take_entry_noted, take_flag_noted, take_place_noted, take_version_noted}
-use Rattle.law_order.specs.pg_run.Births.{AllNamed}
-use Rattle.law_order.proofs.pg_run.Still.{SameMail, entry_cell_still, entry_still, flag_still, linked_still, place_still, same_mail, version_still}
+use Rattle.pg_run.specs.pg_base.declared.id.FileId.{FileId}
+use Rattle.pg_run.specs.pg_base.Version.{VersionValue}
+use Rattle.pg_run.specs.pg_entries.declared.entry.Entry.{Entry}
+use Rattle.pg_run.specs.pg_intent.declared.key.IntentKey.{IntentKey}
+use Rattle.pg_run.specs.pg_intent.Intents.{aimed}
+use Rattle.pg_run.specs.pg_msg.declared.message.Message.{Message}
+use Rattle.pg_run.specs.pg_msg.declared.message.Message.TheVariants as message
+use Rattle.pg_run.specs.pg_register.declared.flag.Flag.{Flag}
+use Rattle.pg_run.specs.pg_register.declared.place.Place.{Place}
+use Rattle.pg_run.specs.pg_store.declared.store.Store.{Store}
+use Rattle.pg_run.specs.pg_store.Beginning.{with_intents}
+use Rattle.pg_run.specs.pg_store.Store.{is_held}
+use Rattle.pg_run.specs.pg_store.Together.{HoldsAsBefore, birth_at}
+use Rattle.pg_run.proofs.pg_store.Pairs.{link_as_before}
+use Rattle.pg_run.specs.pg_pieces.Accepting.{link_peer}
+use Rattle.pg_run.specs.pg_pieces.Done.{Done, idle}
+use Rattle.pg_run.specs.pg_msg.Work.{with_tail}
+use Rattle.pg_run.specs.pg_pieces.Posting.{post, sent_to}
+use Rattle.pg_run.specs.pg_pieces.Taking.{take_entry_cell, take_entry_noted, take_flag_noted, take_place_noted, take_version_noted}
+use Rattle.pg_run.specs.Births.{AllNamed}
+use Rattle.pg_run.proofs.Still.{SameMail, entry_cell_still, entry_still, flag_still, linked_still, place_still, same_mail, version_still}
 use Rattle.law_births.specs.Flags.{SaysEntry, SaysStore}
 use Rattle.law_births.proofs.EndsSay.{SaysEnds, ends_link, ends_stay}
 use Rattle.law_births.proofs.Mails.{OfBirths, Owed, SaysAll}

@@ -1,23 +1,23 @@
 -- What a call leaves at the key of a Bye: all as it was, but where a server is removed.
 use Rattle.std.proofs.Common.{ℕ, ◌≡◌, ◌⊎◌, true, Ok, inl, inr, refl, ◌∙◌}
-use Rattle.law_order.specs.pg_base.declared.id.FileId.{FileId}
-use Rattle.law_order.specs.pg_base.declared.policy.Policy.TheVariants.{Last}
-use Rattle.law_order.specs.pg_call.declared.call.Call.{Call}
-use Rattle.law_order.specs.pg_call.declared.call.Call.TheVariants as call
-use Rattle.law_order.specs.pg_intent.declared.key.IntentKey.TheVariants as intent_key
-use Rattle.law_order.specs.pg_msg.declared.work.Work.{Work}
-use Rattle.law_order.specs.pg_store.Views.{enter}
-use Rattle.law_order.specs.pg_calls.Forgetting.{bare_entry, dead_at, unfilled}
-use Rattle.law_order.specs.pg_calls.GivingUp.{removal_at}
-use Rattle.law_order.specs.pg_names.Names.{blank_own}
-use Rattle.law_order.specs.pg_store.declared.store.Store.{Store}
-use Rattle.law_order.specs.pg_store.Births.{draw_birth, with_birth}
-use Rattle.law_order.specs.pg_pieces.Done.{Done}
-use Rattle.law_order.specs.pg_pieces.Making.{own_next}
-use Rattle.law_order.proofs.pg_intentions.Standing.{begun_other}
-use Rattle.law_order.specs.pg_calls.Dropping.{leave_of}
-use Rattle.law_order.specs.pg_calls.Calls.{do_call}
-use Rattle.law_order.specs.pg_calls.Naming.{next_id, with_id}
+use Rattle.pg_run.specs.pg_base.declared.id.FileId.{FileId}
+use Rattle.pg_run.specs.pg_base.declared.policy.Policy.TheVariants.{Last}
+use Rattle.pg_run.specs.pg_call.declared.call.Call.{Call}
+use Rattle.pg_run.specs.pg_call.declared.call.Call.TheVariants as call
+use Rattle.pg_run.specs.pg_intent.declared.key.IntentKey.TheVariants as intent_key
+use Rattle.pg_run.specs.pg_msg.declared.work.Work.{Work}
+use Rattle.pg_run.specs.pg_store.Views.{enter}
+use Rattle.pg_run.specs.pg_calls.Forgetting.{bare_entry, dead_at, unfilled}
+use Rattle.pg_run.specs.pg_calls.GivingUp.{removal_at}
+use Rattle.pg_run.specs.pg_names.Names.{blank_own}
+use Rattle.pg_run.specs.pg_store.declared.store.Store.{Store}
+use Rattle.pg_run.specs.pg_store.Births.{draw_birth, with_birth}
+use Rattle.pg_run.specs.pg_pieces.Done.{Done}
+use Rattle.pg_run.specs.pg_pieces.Making.{own_next}
+use Rattle.pg_run.proofs.pg_intentions.Standing.{begun_other}
+use Rattle.pg_run.specs.pg_calls.Dropping.{leave_of}
+use Rattle.pg_run.specs.pg_calls.Calls.{do_call}
+use Rattle.pg_run.specs.pg_calls.Naming.{next_id, with_id}
 use Rattle.law_order.proofs.law_frame.Called.{call_keeps}
 use Rattle.law_order.proofs.law_frame.KeepsCalls.{KeepsCalls}
 use Rattle.law_births.proofs.ByeKeys.{ByeKey, Same, begin_same, ended_same, entry_same, flag_same, place_same}

@@ -4,50 +4,50 @@ use Rattle.std.specs.List.{AllByRecursion}
 use Rattle.std.specs.Option.{option_map}
 use Rattle.std.proofs.lemmas.Bool.{false≢true}
 use Rattle.std.proofs.lemmas.Option.{none-some, same_Some}
-use Rattle.law_order.specs.pg_base.declared.id.FileId.{FileId}
-use Rattle.law_order.specs.pg_base.declared.policy.Policy.{Policy}
-use Rattle.law_order.specs.pg_base.declared.stamp.Stamp.{Stamp}
-use Rattle.law_order.specs.pg_base.Id.{is_same_file}
-use Rattle.law_order.specs.pg_entries.declared.entry.Entry.{Entry}
-use Rattle.law_order.specs.pg_intent.declared.intent.Intent.{Intent}
-use Rattle.law_order.specs.pg_intent.declared.intent.Intent.TheVariants as intent
-use Rattle.law_order.specs.pg_intent.declared.key.IntentKey.{IntentKey}
-use Rattle.law_order.specs.pg_intent.declared.key.IntentKey.TheVariants as intent_key
-use Rattle.law_order.specs.pg_intent.Intent.{aimed_at}
-use Rattle.law_order.specs.pg_intent.Intents.{aimed, ended, has_key, intent_at}
-use Rattle.law_order.specs.pg_intent.Key.{is_same_key}
-use Rattle.law_order.proofs.pg_intent.Found.{aimed_found, ended_found}
-use Rattle.law_order.specs.pg_msg.declared.message.Ends.{Ends}
-use Rattle.law_order.specs.pg_msg.declared.message.Message.{Message}
-use Rattle.law_order.specs.pg_msg.declared.message.Message.TheVariants as message
-use Rattle.law_order.specs.pg_msg.declared.work.Work.{Work}
-use Rattle.law_order.specs.pg_names.declared.attributes.Attributes.{Attributes}
-use Rattle.law_order.specs.pg_register.declared.flag.Flag.{Flag}
-use Rattle.law_order.specs.pg_register.declared.place.Place.{Place}
-use Rattle.law_order.specs.pg_base.Version.{VersionValue}
-use Rattle.law_order.specs.pg_replica.Index.{Files}
-use Rattle.law_order.specs.pg_store.declared.store.Store.{Store}
-use Rattle.law_order.specs.pg_store.Beginning.{begin, patch_key, patches_of, put_new, take_patch, take_patches, with_intents}
-use Rattle.law_order.specs.pg_store.Links.{is_linked, is_new_link, link, put_link, unlink}
-use Rattle.law_order.specs.pg_store.Store.{is_new_version, is_newer_entry, is_newer_flag, is_newer_place, put_entry, put_flag, put_place, put_version, take_entry, take_flag, take_place, take_version}
-use Rattle.law_order.specs.pg_pieces.Done.{Done}
-use Rattle.law_order.specs.pg_pieces.Making.{own_next}
-use Rattle.law_order.specs.pg_cells.Settling.{settle}
-use Rattle.law_order.proofs.pg_cells.Settled.{settle_keeps}
-use Rattle.law_order.proofs.pg_graph.LeaveOk.{found_keyed}
+use Rattle.pg_run.specs.pg_base.declared.id.FileId.{FileId}
+use Rattle.pg_run.specs.pg_base.declared.policy.Policy.{Policy}
+use Rattle.pg_run.specs.pg_base.declared.stamp.Stamp.{Stamp}
+use Rattle.pg_run.specs.pg_base.Id.{is_same_file}
+use Rattle.pg_run.specs.pg_entries.declared.entry.Entry.{Entry}
+use Rattle.pg_run.specs.pg_intent.declared.intent.Intent.{Intent}
+use Rattle.pg_run.specs.pg_intent.declared.intent.Intent.TheVariants as intent
+use Rattle.pg_run.specs.pg_intent.declared.key.IntentKey.{IntentKey}
+use Rattle.pg_run.specs.pg_intent.declared.key.IntentKey.TheVariants as intent_key
+use Rattle.pg_run.specs.pg_intent.Intent.{aimed_at}
+use Rattle.pg_run.specs.pg_intent.Intents.{aimed, ended, has_key, intent_at}
+use Rattle.pg_run.specs.pg_intent.Key.{is_same_key}
+use Rattle.pg_run.proofs.pg_intent.Found.{aimed_found, ended_found}
+use Rattle.pg_run.specs.pg_msg.declared.message.Ends.{Ends}
+use Rattle.pg_run.specs.pg_msg.declared.message.Message.{Message}
+use Rattle.pg_run.specs.pg_msg.declared.message.Message.TheVariants as message
+use Rattle.pg_run.specs.pg_msg.declared.work.Work.{Work}
+use Rattle.pg_run.specs.pg_names.declared.attributes.Attributes.{Attributes}
+use Rattle.pg_run.specs.pg_register.declared.flag.Flag.{Flag}
+use Rattle.pg_run.specs.pg_register.declared.place.Place.{Place}
+use Rattle.pg_run.specs.pg_base.Version.{VersionValue}
+use Rattle.pg_run.specs.pg_replica.Index.{Files}
+use Rattle.pg_run.specs.pg_store.declared.store.Store.{Store}
+use Rattle.pg_run.specs.pg_store.Beginning.{begin, patch_key, patches_of, put_new, take_patch, take_patches, with_intents}
+use Rattle.pg_run.specs.pg_store.Links.{is_linked, is_new_link, link, put_link, unlink}
+use Rattle.pg_run.specs.pg_store.Store.{is_new_version, is_newer_entry, is_newer_flag, is_newer_place, put_entry, put_flag, put_place, put_version, take_entry, take_flag, take_place, take_version}
+use Rattle.pg_run.specs.pg_pieces.Done.{Done}
+use Rattle.pg_run.specs.pg_pieces.Making.{own_next}
+use Rattle.pg_run.specs.pg_cells.Settling.{settle}
+use Rattle.pg_run.proofs.pg_cells.Settled.{settle_keeps}
+use Rattle.pg_run.proofs.pg_graph.LeaveOk.{found_keyed}
 use Rattle.law_order.proofs.law_frame.Keeps.{Keeps, ending}
 use Rattle.law_order.proofs.law_frame.Received.{receive_keeps}
-use Rattle.law_order.specs.pg_server.Local.{receive}
-use Rattle.law_order.specs.pg_intentions.Seeks.{begin_seek, to_seek, begin_seeks}
-use Rattle.law_order.specs.pg_intentions.Beginning.{begin_end, end_others, still_stands}
-use Rattle.law_order.specs.pg_intentions.Confirms.{begin_confirm}
-use Rattle.law_order.specs.pg_intentions.Fills.{begin_fill, begin_fills, files_to_fill, to_fill}
-use Rattle.law_order.specs.pg_repair.Granting.{granted_own}
-use Rattle.law_order.specs.pg_intentions.Intending.{in_order}
-use Rattle.law_order.specs.pg_intentions.Patches.{begin_patch, begin_patches}
-use Rattle.law_order.proofs.pg_intentions.Standing.{confirm_at, each_at, fill_other, filtered, patch_at, seek_other}
+use Rattle.pg_run.specs.pg_server.Local.{receive}
+use Rattle.pg_run.specs.pg_intentions.Seeks.{begin_seek, to_seek, begin_seeks}
+use Rattle.pg_run.specs.pg_intentions.Beginning.{begin_end, end_others, still_stands}
+use Rattle.pg_run.specs.pg_intentions.Confirms.{begin_confirm}
+use Rattle.pg_run.specs.pg_intentions.Fills.{begin_fill, begin_fills, files_to_fill, to_fill}
+use Rattle.pg_run.specs.pg_repair.Granting.{granted_own}
+use Rattle.pg_run.specs.pg_intentions.Intending.{in_order}
+use Rattle.pg_run.specs.pg_intentions.Patches.{begin_patch, begin_patches}
+use Rattle.pg_run.proofs.pg_intentions.Standing.{confirm_at, each_at, fill_other, filtered, patch_at, seek_other}
 use Rattle.law_order.proofs.Sounding.{patch_intents, rules_intents}
-use Rattle.law_order.proofs.theory_flood_pieces.Choices.{chosen}
+use Rattle.pg_run.proofs.theory_flood_pieces.Choices.{chosen}
 
 module _ (file : FileId) (birth peer : ℕ) where
   abbrev pub ByeKey : IntentKey

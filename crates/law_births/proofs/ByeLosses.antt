@@ -2,19 +2,19 @@
 use Rattle.std.proofs.Common.{ℕ, ◌≡◌, ◌==◌, ◌++◌, ◌||◌, ◌⊎◌, Bool, true, false, cond, List, [], ◌∷◌, Option, None, Some, inl, inr, refl, sym, ap, ◌∙◌}
 use Rattle.std.specs.Map.{keys_of}
 use Rattle.std.proofs.lemmas.Bool.{eqb-true, false≢true}
-use Rattle.law_order.specs.pg_base.declared.id.FileId.{FileId}
-use Rattle.law_order.specs.pg_intent.declared.intent.Intent.{Intent}
-use Rattle.law_order.specs.pg_intent.declared.intent.Intent.TheVariants as intent
-use Rattle.law_order.specs.pg_intent.declared.key.IntentKey.{IntentKey}
-use Rattle.law_order.specs.pg_intent.declared.key.IntentKey.TheVariants as intent_key
-use Rattle.law_order.specs.pg_intent.Intent.{key_of, target_of}
-use Rattle.law_order.specs.pg_intent.Intents.{intent_at, keys_to, turned_each}
-use Rattle.law_order.specs.pg_intent.Key.{is_same_key}
-use Rattle.law_order.proofs.pg_intent.SameKey.{is_same_key-true}
-use Rattle.law_order.proofs.pg_intent.Turned.{each_found, is_one_of}
-use Rattle.law_order.specs.pg_store.Servers.{next_target}
-use Rattle.law_order.specs.pg_store.Views.{cut, cut_born, cut_each, enter, listed_birth, with_removed}
-use Rattle.law_order.specs.pg_store.declared.store.Store.{Store}
+use Rattle.pg_run.specs.pg_base.declared.id.FileId.{FileId}
+use Rattle.pg_run.specs.pg_intent.declared.intent.Intent.{Intent}
+use Rattle.pg_run.specs.pg_intent.declared.intent.Intent.TheVariants as intent
+use Rattle.pg_run.specs.pg_intent.declared.key.IntentKey.{IntentKey}
+use Rattle.pg_run.specs.pg_intent.declared.key.IntentKey.TheVariants as intent_key
+use Rattle.pg_run.specs.pg_intent.Intent.{key_of, target_of}
+use Rattle.pg_run.specs.pg_intent.Intents.{intent_at, keys_to, turned_each}
+use Rattle.pg_run.specs.pg_intent.Key.{is_same_key}
+use Rattle.pg_run.proofs.pg_intent.SameKey.{is_same_key-true}
+use Rattle.pg_run.proofs.pg_intent.Turned.{each_found, is_one_of}
+use Rattle.pg_run.specs.pg_store.Servers.{next_target}
+use Rattle.pg_run.specs.pg_store.Views.{cut, cut_born, cut_each, enter, listed_birth, with_removed}
+use Rattle.pg_run.specs.pg_store.declared.store.Store.{Store}
 use Rattle.law_births.proofs.ByeKeys.{ByeKey, Same, bye_in, unlink_same}
 
 either_is : (b c : Bool) → (b || c) ≡ true → (b ≡ true) ⊎ (c ≡ true)

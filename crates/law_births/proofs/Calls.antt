@@ -1,37 +1,37 @@
 -- What a call does to births and edges.
 use Rattle.std.proofs.Common.{ℕ, ◌≡◌, true, false, List, None, Some, Ok, inl, refl, sym, ap, ◌∙◌}
 use Rattle.std.proofs.lemmas.Bool.{false≢true}
-use Rattle.law_order.specs.pg_base.declared.id.FileId.{FileId}
-use Rattle.law_order.specs.pg_base.declared.id.Kind.{Kind}
-use Rattle.law_order.specs.pg_base.declared.policy.Policy.{Policy}
-use Rattle.law_order.specs.pg_base.declared.policy.Policy.TheVariants.{Last}
-use Rattle.law_order.proofs.pg_base.Orders.{is_same_file-true}
-use Rattle.law_order.specs.pg_call.declared.call.Call.{Call}
-use Rattle.law_order.specs.pg_call.declared.call.Call.TheVariants as call
-use Rattle.law_order.specs.pg_intent.declared.intent.Intent.{Intent}
-use Rattle.law_order.specs.pg_intent.declared.intent.Intent.TheVariants as intent
-use Rattle.law_order.specs.pg_intent.declared.key.IntentKey.TheVariants as intent_key
-use Rattle.law_order.specs.pg_intent.Intents.{has_key, intent_at}
-use Rattle.law_order.proofs.pg_intent.Found.{stands_is}
-use Rattle.law_order.specs.pg_msg.declared.work.Work.{Work}
-use Rattle.law_order.specs.pg_names.declared.attributes.Attributes.{Attributes}
-use Rattle.law_order.specs.pg_names.Names.{blank_own}
-use Rattle.law_order.specs.pg_store.declared.store.Store.{Store}
-use Rattle.law_order.specs.pg_store.Beginning.{begin}
-use Rattle.law_order.specs.pg_store.Births.{draw_birth, fill_at, with_birth, with_wish}
-use Rattle.law_order.specs.pg_store.Store.{is_full, is_held}
-use Rattle.law_order.proofs.pg_store.Aiming.{gone_as_before}
-use Rattle.law_order.specs.pg_pieces.Done.{Done}
-use Rattle.law_order.specs.pg_pieces.Making.{own_next}
-use Rattle.law_order.proofs.pg_graph.LeaveOk.{found_keyed}
-use Rattle.law_order.specs.pg_checks.Asking.{fresh_wish, holder, standing}
-use Rattle.law_order.specs.pg_calls.Calls.{do_call}
-use Rattle.law_order.specs.pg_calls.Dropping.{leave_of}
-use Rattle.law_order.specs.pg_calls.Forgetting.{bare_entry, dead_at, unfilled, unwished}
-use Rattle.law_order.specs.pg_calls.GivingUp.{removal_at}
-use Rattle.law_order.specs.pg_calls.Making.{drawn}
-use Rattle.law_order.specs.pg_calls.Naming.{next_id, with_id}
-use Rattle.law_order.specs.pg_run.Intending.{FillsStand}
+use Rattle.pg_run.specs.pg_base.declared.id.FileId.{FileId}
+use Rattle.pg_run.specs.pg_base.declared.id.Kind.{Kind}
+use Rattle.pg_run.specs.pg_base.declared.policy.Policy.{Policy}
+use Rattle.pg_run.specs.pg_base.declared.policy.Policy.TheVariants.{Last}
+use Rattle.pg_run.proofs.pg_base.Orders.{is_same_file-true}
+use Rattle.pg_run.specs.pg_call.declared.call.Call.{Call}
+use Rattle.pg_run.specs.pg_call.declared.call.Call.TheVariants as call
+use Rattle.pg_run.specs.pg_intent.declared.intent.Intent.{Intent}
+use Rattle.pg_run.specs.pg_intent.declared.intent.Intent.TheVariants as intent
+use Rattle.pg_run.specs.pg_intent.declared.key.IntentKey.TheVariants as intent_key
+use Rattle.pg_run.specs.pg_intent.Intents.{has_key, intent_at}
+use Rattle.pg_run.proofs.pg_intent.Found.{stands_is}
+use Rattle.pg_run.specs.pg_msg.declared.work.Work.{Work}
+use Rattle.pg_run.specs.pg_names.declared.attributes.Attributes.{Attributes}
+use Rattle.pg_run.specs.pg_names.Names.{blank_own}
+use Rattle.pg_run.specs.pg_store.declared.store.Store.{Store}
+use Rattle.pg_run.specs.pg_store.Beginning.{begin}
+use Rattle.pg_run.specs.pg_store.Births.{draw_birth, fill_at, with_birth, with_wish}
+use Rattle.pg_run.specs.pg_store.Store.{is_full, is_held}
+use Rattle.pg_run.proofs.pg_store.Aiming.{gone_as_before}
+use Rattle.pg_run.specs.pg_pieces.Done.{Done}
+use Rattle.pg_run.specs.pg_pieces.Making.{own_next}
+use Rattle.pg_run.proofs.pg_graph.LeaveOk.{found_keyed}
+use Rattle.pg_run.specs.pg_checks.Asking.{fresh_wish, holder, standing}
+use Rattle.pg_run.specs.pg_calls.Calls.{do_call}
+use Rattle.pg_run.specs.pg_calls.Dropping.{leave_of}
+use Rattle.pg_run.specs.pg_calls.Forgetting.{bare_entry, dead_at, unfilled, unwished}
+use Rattle.pg_run.specs.pg_calls.GivingUp.{removal_at}
+use Rattle.pg_run.specs.pg_calls.Making.{drawn}
+use Rattle.pg_run.specs.pg_calls.Naming.{next_id, with_id}
+use Rattle.pg_run.specs.Intending.{FillsStand}
 use Rattle.law_order.proofs.law_frame.Called.{call_keeps}
 use Rattle.law_order.proofs.law_frame.KeepsCalls.{KeepsCalls}
 use Rattle.law_order.proofs.Called.{gap_behind, missing_away, unfilled_at}

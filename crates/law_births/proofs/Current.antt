@@ -1,18 +1,18 @@
 -- Who is met in the words of the law is met by the handlers' tests, and the other way round.
 use Rattle.std.proofs.Common.{ℕ, ◌≡◌, ◌≤◌, true, false, not, Option, None, Some, refl, sym, ap, ◌∙◌, eq-eqb}
 use Rattle.std.proofs.lemmas.Bool.{and_from, and_parts, eqb-true, false≢true, le-ltb, ltb-false, not-true, not_from_false}
-use Rattle.law_order.specs.pg_edges.declared.edge.Edge.{Edge}
-use Rattle.law_order.specs.pg_edges.Edges.{edge_to}
-use Rattle.law_order.specs.pg_msg.declared.message.Ends.{Ends}
-use Rattle.law_order.specs.pg_replica.declared.replica.Replica.{Replica}
-use Rattle.law_order.specs.pg_replica.Replica.{is_born_later}
-use Rattle.law_order.specs.pg_replica.Replicas.{is_of_birth, or_nothing}
-use Rattle.law_order.specs.pg_store.declared.store.Store.{Store}
-use Rattle.law_order.specs.pg_store.Births.{has_birth}
-use Rattle.law_order.specs.pg_store.Links.{knows_later}
-use Rattle.law_order.specs.pg_store.Store.{replica_at}
-use Rattle.law_order.specs.pg_pieces.Accepting.{is_current}
-use Rattle.law_order.specs.pg_run.Births.{IsMet}
+use Rattle.pg_run.specs.pg_edges.declared.edge.Edge.{Edge}
+use Rattle.pg_run.specs.pg_edges.Edges.{edge_to}
+use Rattle.pg_run.specs.pg_msg.declared.message.Ends.{Ends}
+use Rattle.pg_run.specs.pg_replica.declared.replica.Replica.{Replica}
+use Rattle.pg_run.specs.pg_replica.Replica.{is_born_later}
+use Rattle.pg_run.specs.pg_replica.Replicas.{is_of_birth, or_nothing}
+use Rattle.pg_run.specs.pg_store.declared.store.Store.{Store}
+use Rattle.pg_run.specs.pg_store.Births.{has_birth}
+use Rattle.pg_run.specs.pg_store.Links.{knows_later}
+use Rattle.pg_run.specs.pg_store.Store.{replica_at}
+use Rattle.pg_run.specs.pg_pieces.Accepting.{is_current}
+use Rattle.pg_run.specs.Births.{IsMet}
 
 not_later : (o : Option Edge) (birth : ℕ) → ((e : Edge) → o ≡ Some e → e.birth ≤ birth)
     → is_born_later o birth ≡ false

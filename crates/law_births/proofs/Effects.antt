@@ -2,47 +2,47 @@
 use Rattle.std.proofs.Common.{ℕ, ◌≡◌, Bool, true, false, cond, List, Option, None, Some, is_some, refl, sym, ap, subst, ◌∙◌}
 use Rattle.std.specs.Option.{option_map}
 use Rattle.std.proofs.lemmas.Bool.{and_parts, false≢true, not-true}
-use Rattle.law_order.specs.pg_base.declared.head.Head.{Head}
-use Rattle.law_order.specs.pg_base.declared.id.FileId.{FileId}
-use Rattle.law_order.specs.pg_base.declared.id.Kind.{Kind}
-use Rattle.law_order.specs.pg_base.declared.stamp.Stamp.{Stamp}
-use Rattle.law_order.specs.pg_call.declared.call.Call.{Call}
-use Rattle.law_order.specs.pg_call.declared.reply.Reply.{Reply}
-use Rattle.law_order.specs.pg_entries.declared.cell.Cell.{Cell}
-use Rattle.law_order.specs.pg_msg.declared.message.Ends.{Ends}
-use Rattle.law_order.specs.pg_msg.declared.message.Granted.{Granted}
-use Rattle.law_order.specs.pg_msg.declared.message.Message.{Message}
-use Rattle.law_order.specs.pg_msg.declared.message.Message.TheVariants as message
-use Rattle.law_order.specs.pg_msg.declared.message.Packet.{Packet}
-use Rattle.law_order.specs.pg_msg.declared.work.Work.{Work}
-use Rattle.law_order.specs.pg_msg.Work.{new_work}
-use Rattle.law_order.specs.pg_names.Names.{is_dir}
-use Rattle.law_order.specs.pg_replica.declared.replica.Replica.{Replica}
-use Rattle.law_order.specs.pg_replica.Replicas.{ByFile, is_of_birth, replica_in}
-use Rattle.law_order.specs.pg_store.declared.store.Store.{Store}
-use Rattle.law_order.specs.pg_store.Births.{has_birth, is_pending}
-use Rattle.law_order.specs.pg_store.Links.{knows_later, link}
-use Rattle.law_order.specs.pg_store.Store.{is_before_clock_end, is_held, replica_at}
-use Rattle.law_order.proofs.pg_store.Aiming.{unwished_as_before}
-use Rattle.law_order.proofs.pg_store.Given.{pending_may}
-use Rattle.law_order.specs.pg_pieces.declared.accepting.EdgeUse.TheVariants as manner
-use Rattle.law_order.specs.pg_pieces.Accepting.{accept, is_accepted, is_current, link_peer, with_gone}
-use Rattle.law_order.specs.pg_cells.Cells.{cell, fits, taken_along}
-use Rattle.law_order.specs.pg_pieces.Done.{Done, idle}
-use Rattle.law_order.specs.pg_graph.Leaving.{leave, leave_given}
-use Rattle.law_order.specs.pg_repair.Granting.{begin_granted, grant}
-use Rattle.law_order.proofs.pg_intentions.Steady.{begin_end_stays}
-use Rattle.law_order.specs.pg_server.declared.input.Input.{Input}
-use Rattle.law_order.specs.pg_server.declared.input.Input.TheVariants as input
-use Rattle.law_order.specs.pg_server.Local.{Effect, closed, effect, finished, first_effect, intended, is_heard, receive, reply_to, settled, takes_effect, ticked, without_volatile}
-use Rattle.law_order.specs.pg_announced.Announced.{released}
-use Rattle.law_order.specs.pg_server.pg_transfer.Asking.{noted}
-use Rattle.law_order.specs.pg_server.pg_transfer.Harbinger.{harbinger, heard}
-use Rattle.law_order.proofs.theory_flood_pieces.Choices.{chosen, decided}
-use Rattle.law_order.specs.pg_run.Births.{linking}
-use Rattle.law_order.proofs.pg_run.TransferWays.{beside_goes, heard_goes}
-use Rattle.law_order.specs.pg_run.Intending.{FillsStand}
-use Rattle.law_order.specs.pg_calls.Naming.{next_id}
+use Rattle.pg_run.specs.pg_base.declared.head.Head.{Head}
+use Rattle.pg_run.specs.pg_base.declared.id.FileId.{FileId}
+use Rattle.pg_run.specs.pg_base.declared.id.Kind.{Kind}
+use Rattle.pg_run.specs.pg_base.declared.stamp.Stamp.{Stamp}
+use Rattle.pg_run.specs.pg_call.declared.call.Call.{Call}
+use Rattle.pg_run.specs.pg_call.declared.reply.Reply.{Reply}
+use Rattle.pg_run.specs.pg_entries.declared.cell.Cell.{Cell}
+use Rattle.pg_run.specs.pg_msg.declared.message.Ends.{Ends}
+use Rattle.pg_run.specs.pg_msg.declared.message.Granted.{Granted}
+use Rattle.pg_run.specs.pg_msg.declared.message.Message.{Message}
+use Rattle.pg_run.specs.pg_msg.declared.message.Message.TheVariants as message
+use Rattle.pg_run.specs.pg_msg.declared.message.Packet.{Packet}
+use Rattle.pg_run.specs.pg_msg.declared.work.Work.{Work}
+use Rattle.pg_run.specs.pg_msg.Work.{new_work}
+use Rattle.pg_run.specs.pg_names.Names.{is_dir}
+use Rattle.pg_run.specs.pg_replica.declared.replica.Replica.{Replica}
+use Rattle.pg_run.specs.pg_replica.Replicas.{ByFile, is_of_birth, replica_in}
+use Rattle.pg_run.specs.pg_store.declared.store.Store.{Store}
+use Rattle.pg_run.specs.pg_store.Births.{has_birth, is_pending}
+use Rattle.pg_run.specs.pg_store.Links.{knows_later, link}
+use Rattle.pg_run.specs.pg_store.Store.{is_before_clock_end, is_held, replica_at}
+use Rattle.pg_run.proofs.pg_store.Aiming.{unwished_as_before}
+use Rattle.pg_run.proofs.pg_store.Given.{pending_may}
+use Rattle.pg_run.specs.pg_pieces.declared.accepting.EdgeUse.TheVariants as manner
+use Rattle.pg_run.specs.pg_pieces.Accepting.{accept, is_accepted, is_current, link_peer, with_gone}
+use Rattle.pg_run.specs.pg_cells.Cells.{cell, fits, taken_along}
+use Rattle.pg_run.specs.pg_pieces.Done.{Done, idle}
+use Rattle.pg_run.specs.pg_graph.Leaving.{leave, leave_given}
+use Rattle.pg_run.specs.pg_repair.Granting.{begin_granted, grant}
+use Rattle.pg_run.proofs.pg_intentions.Steady.{begin_end_stays}
+use Rattle.pg_run.specs.pg_server.declared.input.Input.{Input}
+use Rattle.pg_run.specs.pg_server.declared.input.Input.TheVariants as input
+use Rattle.pg_run.specs.pg_server.Local.{Effect, closed, effect, finished, first_effect, intended, is_heard, receive, reply_to, settled, takes_effect, ticked, without_volatile}
+use Rattle.pg_run.specs.pg_announced.Announced.{released}
+use Rattle.pg_run.specs.pg_server.pg_transfer.Asking.{noted}
+use Rattle.pg_run.specs.pg_server.pg_transfer.Harbinger.{harbinger, heard}
+use Rattle.pg_run.proofs.theory_flood_pieces.Choices.{chosen, decided}
+use Rattle.pg_run.specs.Births.{linking}
+use Rattle.pg_run.proofs.TransferWays.{beside_goes, heard_goes}
+use Rattle.pg_run.specs.Intending.{FillsStand}
+use Rattle.pg_run.specs.pg_calls.Naming.{next_id}
 use Rattle.law_births.specs.Premises.{IsFree}
 use Rattle.law_births.proofs.Calls.{MayEnter, call_moves}
 use Rattle.law_births.proofs.Ends.{born_to}

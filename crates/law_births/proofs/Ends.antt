@@ -4,11 +4,11 @@ use Rattle.std.specs.Prelude.{nat_lt}
 use Rattle.std.specs.Option.{option_eq, option_map}
 use Rattle.std.proofs.lemmas.Bool.{eqb-true, ltb-true}
 use Rattle.std.proofs.lemmas.Bool.Decides.{nat_tests}
-use Rattle.law_order.specs.pg_edges.declared.key.Key.{Key}
-use Rattle.law_order.specs.pg_edges.declared.edge.Edge.{Edge}
-use Rattle.law_order.specs.pg_edges.Edges.{acked, edge_to, is_listed, is_older, keys_at, keys_if_born, linked, makes_edge, new_edge, put_edge, retired, tag_at, take_off, taken_off, touched, unlinked, without_edge}
-use Rattle.law_order.proofs.pg_edges.Lookups.{edge_to-put_edge, takes_out}
-use Rattle.law_order.specs.pg_replica.Replica.{is_born_later, without_keys}
+use Rattle.pg_run.specs.pg_edges.declared.key.Key.{Key}
+use Rattle.pg_run.specs.pg_edges.declared.edge.Edge.{Edge}
+use Rattle.pg_run.specs.pg_edges.Edges.{acked, edge_to, is_listed, is_older, keys_at, keys_if_born, linked, makes_edge, new_edge, put_edge, retired, tag_at, take_off, taken_off, touched, unlinked, without_edge}
+use Rattle.pg_run.proofs.pg_edges.Lookups.{edge_to-put_edge, takes_out}
+use Rattle.pg_run.specs.pg_replica.Replica.{is_born_later, without_keys}
 
 -- the peers with the births that are listed
 abbrev pub ends : List Edge → List (ℕ × ℕ)

@@ -5,23 +5,23 @@ use Rattle.std.specs.Ordering.{match_ordering, nat_cmp}
 use Rattle.std.specs.BTreeMap.{is_at}
 use Rattle.std.specs.Option.{option_map}
 use Rattle.std.proofs.lemmas.List.Elements.{All-cons, All-nil}
-use Rattle.law_order.specs.pg_base.declared.id.FileId.{FileId}
-use Rattle.law_order.specs.pg_base.declared.policy.Policy.{Policy}
-use Rattle.law_order.specs.pg_base.Id.{file_cmp, is_same_file}
-use Rattle.law_order.proofs.pg_base.Maps.{lookup-insert_entry}
-use Rattle.law_order.proofs.pg_base.Orders.{file_total, is_same_file-true}
-use Rattle.law_order.specs.pg_edges.declared.edge.Edge.{Edge}
-use Rattle.law_order.specs.pg_edges.Edges.{is_listed, makes_edge, new_edge, put_edge, without_edge}
-use Rattle.law_order.specs.pg_names.declared.attributes.Attributes.{Attributes}
-use Rattle.law_order.specs.pg_replica.declared.replica.Replica.{Replica}
-use Rattle.law_order.specs.pg_replica.Replica.{new_replica, with_link, with_unlink}
-use Rattle.law_order.specs.pg_replica.Replicas.{ByFile, put_replica, replica_in, replicas_linked, replicas_unlinked}
-use Rattle.law_order.specs.pg_store.declared.store.Store.{Store}
-use Rattle.law_order.proofs.pg_replica.Going.{replica_behind}
-use Rattle.law_order.specs.pg_store.Beginning.{begin, let_go, patches_of, put_new}
-use Rattle.law_order.specs.pg_store.Links.{is_linked, is_new_link, keys, link, put_link, unlink}
-use Rattle.law_order.specs.pg_store.Store.{replica_at}
-use Rattle.law_order.proofs.pg_store.Going.{left_some}
+use Rattle.pg_run.specs.pg_base.declared.id.FileId.{FileId}
+use Rattle.pg_run.specs.pg_base.declared.policy.Policy.{Policy}
+use Rattle.pg_run.specs.pg_base.Id.{file_cmp, is_same_file}
+use Rattle.pg_run.proofs.pg_base.Maps.{lookup-insert_entry}
+use Rattle.pg_run.proofs.pg_base.Orders.{file_total, is_same_file-true}
+use Rattle.pg_run.specs.pg_edges.declared.edge.Edge.{Edge}
+use Rattle.pg_run.specs.pg_edges.Edges.{is_listed, makes_edge, new_edge, put_edge, without_edge}
+use Rattle.pg_run.specs.pg_names.declared.attributes.Attributes.{Attributes}
+use Rattle.pg_run.specs.pg_replica.declared.replica.Replica.{Replica}
+use Rattle.pg_run.specs.pg_replica.Replica.{new_replica, with_link, with_unlink}
+use Rattle.pg_run.specs.pg_replica.Replicas.{ByFile, put_replica, replica_in, replicas_linked, replicas_unlinked}
+use Rattle.pg_run.specs.pg_store.declared.store.Store.{Store}
+use Rattle.pg_run.proofs.pg_replica.Going.{replica_behind}
+use Rattle.pg_run.specs.pg_store.Beginning.{begin, let_go, patches_of, put_new}
+use Rattle.pg_run.specs.pg_store.Links.{is_linked, is_new_link, keys, link, put_link, unlink}
+use Rattle.pg_run.specs.pg_store.Store.{replica_at}
+use Rattle.pg_run.proofs.pg_store.Going.{left_some}
 use Rattle.law_births.proofs.Ends.{ends}
 use Rattle.law_births.proofs.Moving.{some_shape}
 use Rattle.law_births.proofs.Pieces.{Stays, patches_stay, shape, shape_at}

@@ -4,21 +4,21 @@ use Rattle.std.proofs.Common.{ℕ, ◌≡◌, Bool, true, false, cond, List, [],
 use Rattle.std.specs.List.{find}
 use Rattle.std.specs.Option.{option_map}
 use Rattle.std.proofs.lemmas.List.Elements.{All-head, All-tail}
-use Rattle.law_order.specs.pg_base.declared.id.FileId.{FileId}
-use Rattle.law_order.specs.pg_edges.Edges.{without_edge}
-use Rattle.law_order.specs.pg_intent.declared.key.IntentKey.{IntentKey}
-use Rattle.law_order.specs.pg_intent.Intents.{aimed, ended, keys_to, turned, turned_each}
-use Rattle.law_order.specs.pg_intent.Key.{is_for_peer}
-use Rattle.law_order.specs.pg_register.declared.flag.Flag.{Flag}
+use Rattle.pg_run.specs.pg_base.declared.id.FileId.{FileId}
+use Rattle.pg_run.specs.pg_edges.Edges.{without_edge}
+use Rattle.pg_run.specs.pg_intent.declared.key.IntentKey.{IntentKey}
+use Rattle.pg_run.specs.pg_intent.Intents.{aimed, ended, keys_to, turned, turned_each}
+use Rattle.pg_run.specs.pg_intent.Key.{is_for_peer}
+use Rattle.pg_run.specs.pg_register.declared.flag.Flag.{Flag}
 use Rattle.std.specs.Map.{keys_of}
-use Rattle.law_order.specs.pg_replica.declared.replica.Replica.{Replica}
-use Rattle.law_order.specs.pg_store.declared.store.Store.{Store}
-use Rattle.law_order.specs.pg_store.Beginning.{with_intents}
-use Rattle.law_order.specs.pg_store.Servers.{next_target}
-use Rattle.law_order.specs.pg_store.Store.{replica_at}
-use Rattle.law_order.specs.pg_store.Together.{AreTogether}
-use Rattle.law_order.specs.pg_store.Views.{cut, cut_born, cut_each, enter, listed_birth, turn, with_removed, without_peer}
-use Rattle.law_order.proofs.pg_store.Entered.{enter_found}
+use Rattle.pg_run.specs.pg_replica.declared.replica.Replica.{Replica}
+use Rattle.pg_run.specs.pg_store.declared.store.Store.{Store}
+use Rattle.pg_run.specs.pg_store.Beginning.{with_intents}
+use Rattle.pg_run.specs.pg_store.Servers.{next_target}
+use Rattle.pg_run.specs.pg_store.Store.{replica_at}
+use Rattle.pg_run.specs.pg_store.Together.{AreTogether}
+use Rattle.pg_run.specs.pg_store.Views.{cut, cut_born, cut_each, enter, listed_birth, turn, with_removed, without_peer}
+use Rattle.pg_run.proofs.pg_store.Entered.{enter_found}
 use Rattle.law_births.specs.Flags.{SaysStore}
 use Rattle.law_births.proofs.Ends.{ends}
 use Rattle.law_births.proofs.EndsSay.{AllEnds, SaysEnds, cut_all}

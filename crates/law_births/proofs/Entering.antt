@@ -2,49 +2,49 @@
 -- one.
 use Rattle.std.proofs.Common.{ℕ, ◌≡◌, ◌==◌, ◌||◌, ◌++◌, Bool, true, false, cond, List, [], ◌∷◌, Option, None, Some, Result, Ok, Err, eq-eqb, ◌⊎◌, inl, refl, ap, subst, ◌∙◌}
 use Rattle.std.specs.Option.{option_map}
-use Rattle.law_order.specs.pg_base.declared.id.FileId.{FileId}
-use Rattle.law_order.specs.pg_call.declared.call.Call.TheVariants as call
-use Rattle.law_order.specs.pg_call.declared.reply.Reply.{Reply}
-use Rattle.law_order.specs.pg_call.declared.reply.Reply.TheVariants as reply
-use Rattle.law_order.specs.pg_checks.Answer.{answer, answered}
-use Rattle.law_order.specs.pg_calls.GivingUp.{enter_view, removal_at}
-use Rattle.law_order.proofs.pg_calls.Checked.{no_ok}
-use Rattle.law_order.specs.pg_msg.Work.{new_work}
-use Rattle.law_order.specs.pg_lookup.declared.paths.LookupError.{LookupError}
-use Rattle.law_order.specs.pg_run.Going.{IsRemovedBehind}
-use Rattle.law_order.specs.pg_server.declared.input.Input.TheVariants as input
-use Rattle.law_order.specs.pg_edges.Edges.{without_edge}
-use Rattle.law_order.specs.pg_intent.declared.key.IntentKey.{IntentKey}
-use Rattle.law_order.specs.pg_intent.Intents.{aimed, ended, keys_to, turned, turned_each}
-use Rattle.law_order.specs.pg_intent.Key.{is_for_peer}
-use Rattle.law_order.specs.pg_house.House.{house}
-use Rattle.law_order.specs.pg_house.Work.{state_of}
-use Rattle.law_order.proofs.pg_house.Keys.{rules_by}
-use Rattle.law_order.specs.pg_msg.declared.work.Work.{Work}
-use Rattle.law_order.specs.pg_names.Names.{NamesValue, with_flag}
-use Rattle.law_order.proofs.pg_names.Lookups.{update_frame}
-use Rattle.law_order.specs.pg_register.Flag.{is_removed}
-use Rattle.law_order.specs.pg_replica.declared.replica.Replica.{Replica}
-use Rattle.law_order.specs.pg_store.declared.store.Store.{Store}
-use Rattle.law_order.specs.pg_store.Beginning.{with_intents}
-use Rattle.law_order.specs.pg_store.Births.{with_wishes}
-use Rattle.law_order.specs.pg_store.Seen.{removed_of}
-use Rattle.law_order.specs.pg_store.Servers.{next_target}
-use Rattle.law_order.specs.pg_store.Store.{is_newer_flag, put_flag, replica_at, take_flag, with_names}
-use Rattle.law_order.specs.pg_store.Views.{enter, turn, without_peer}
-use Rattle.law_order.specs.pg_store.Wishes.{aim_each, aim_wish, wished_of}
-use Rattle.law_order.proofs.pg_store.Entered.{enter_found, enter_names}
-use Rattle.law_order.proofs.pg_store.Entering.{Cut, entered_as_before}
-use Rattle.law_order.proofs.pg_store.Pairs.{ended_as_before}
-use Rattle.law_order.specs.pg_pieces.Done.{Done}
-use Rattle.law_order.specs.pg_pieces.Making.{own_next}
-use Rattle.law_order.specs.pg_cells.Settling.{rules, settle}
-use Rattle.law_order.proofs.pg_cells.Settled.{settle_keeps}
-use Rattle.law_order.proofs.pg_intentions.Steady.{begin_end_stays}
-use Rattle.law_order.proofs.theory_flood_pieces.Choices.{chosen}
-use Rattle.law_order.proofs.theory_flood_pieces.Touching.{same_names}
-use Rattle.law_order.specs.pg_server.declared.input.Input.{Input}
-use Rattle.law_order.specs.pg_server.Local.{Effect, closed, effect, finished, first_effect, reply_to, settled, takes_effect}
+use Rattle.pg_run.specs.pg_base.declared.id.FileId.{FileId}
+use Rattle.pg_run.specs.pg_call.declared.call.Call.TheVariants as call
+use Rattle.pg_run.specs.pg_call.declared.reply.Reply.{Reply}
+use Rattle.pg_run.specs.pg_call.declared.reply.Reply.TheVariants as reply
+use Rattle.pg_run.specs.pg_checks.Answer.{answer, answered}
+use Rattle.pg_run.specs.pg_calls.GivingUp.{enter_view, removal_at}
+use Rattle.pg_run.proofs.pg_calls.Checked.{no_ok}
+use Rattle.pg_run.specs.pg_msg.Work.{new_work}
+use Rattle.pg_run.specs.pg_lookup.declared.paths.LookupError.{LookupError}
+use Rattle.pg_run.specs.Going.{IsRemovedBehind}
+use Rattle.pg_run.specs.pg_server.declared.input.Input.TheVariants as input
+use Rattle.pg_run.specs.pg_edges.Edges.{without_edge}
+use Rattle.pg_run.specs.pg_intent.declared.key.IntentKey.{IntentKey}
+use Rattle.pg_run.specs.pg_intent.Intents.{aimed, ended, keys_to, turned, turned_each}
+use Rattle.pg_run.specs.pg_intent.Key.{is_for_peer}
+use Rattle.pg_run.specs.pg_house.House.{house}
+use Rattle.pg_run.specs.pg_house.Work.{state_of}
+use Rattle.pg_run.proofs.pg_house.Keys.{rules_by}
+use Rattle.pg_run.specs.pg_msg.declared.work.Work.{Work}
+use Rattle.pg_run.specs.pg_names.Names.{NamesValue, with_flag}
+use Rattle.pg_run.proofs.pg_names.Lookups.{update_frame}
+use Rattle.pg_run.specs.pg_register.Flag.{is_removed}
+use Rattle.pg_run.specs.pg_replica.declared.replica.Replica.{Replica}
+use Rattle.pg_run.specs.pg_store.declared.store.Store.{Store}
+use Rattle.pg_run.specs.pg_store.Beginning.{with_intents}
+use Rattle.pg_run.specs.pg_store.Births.{with_wishes}
+use Rattle.pg_run.specs.pg_store.Seen.{removed_of}
+use Rattle.pg_run.specs.pg_store.Servers.{next_target}
+use Rattle.pg_run.specs.pg_store.Store.{is_newer_flag, put_flag, replica_at, take_flag, with_names}
+use Rattle.pg_run.specs.pg_store.Views.{enter, turn, without_peer}
+use Rattle.pg_run.specs.pg_store.Wishes.{aim_each, aim_wish, wished_of}
+use Rattle.pg_run.proofs.pg_store.Entered.{enter_found, enter_names}
+use Rattle.pg_run.proofs.pg_store.Entering.{Cut, entered_as_before}
+use Rattle.pg_run.proofs.pg_store.Pairs.{ended_as_before}
+use Rattle.pg_run.specs.pg_pieces.Done.{Done}
+use Rattle.pg_run.specs.pg_pieces.Making.{own_next}
+use Rattle.pg_run.specs.pg_cells.Settling.{rules, settle}
+use Rattle.pg_run.proofs.pg_cells.Settled.{settle_keeps}
+use Rattle.pg_run.proofs.pg_intentions.Steady.{begin_end_stays}
+use Rattle.pg_run.proofs.theory_flood_pieces.Choices.{chosen}
+use Rattle.pg_run.proofs.theory_flood_pieces.Touching.{same_names}
+use Rattle.pg_run.specs.pg_server.declared.input.Input.{Input}
+use Rattle.pg_run.specs.pg_server.Local.{Effect, closed, effect, finished, first_effect, reply_to, settled, takes_effect}
 use Rattle.std.specs.Prelude.{drop, length}
 use Rattle.law_births.proofs.Begins.{aim_goes, turn_goes}
 use Rattle.law_births.proofs.Ends.{NoneFalls, UpBut, cut_falls_not, cut_up, ends}

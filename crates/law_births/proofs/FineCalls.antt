@@ -3,49 +3,49 @@ use Rattle.std.proofs.Common.{ℕ, ◌≡◌, Bool, true, false, not, List, [], 
 use Rattle.std.specs.Map.{keys_of}
 use Rattle.std.proofs.lemmas.Bool.{and_parts}
 use Rattle.std.proofs.lemmas.List.Elements.{All-nil}
-use Rattle.law_order.specs.pg_base.declared.id.FileId.{FileId}
-use Rattle.law_order.specs.pg_base.declared.policy.Policy.{Policy}
-use Rattle.law_order.specs.pg_base.declared.policy.Policy.TheVariants.{Last}
-use Rattle.law_order.specs.pg_patch.Ranges.{RangesValue}
-use Rattle.law_order.specs.pg_call.declared.call.Call.{Call}
-use Rattle.law_order.specs.pg_edges.declared.edge.Edge.{Edge}
-use Rattle.law_order.specs.pg_intent.declared.key.IntentKey.TheVariants as intent_key
-use Rattle.law_order.specs.pg_msg.declared.message.Message.TheVariants as message
-use Rattle.law_order.specs.pg_msg.declared.update.Update.TheVariants as update
-use Rattle.law_order.specs.pg_msg.declared.work.Work.{Work}
-use Rattle.law_order.specs.pg_msg.Work.{with_made}
-use Rattle.law_order.specs.pg_names.declared.attributes.Attributes.{Attributes}
-use Rattle.law_order.specs.pg_names.Names.{blank_own, fill as fill_names, own_at}
-use Rattle.law_order.specs.pg_register.declared.flag.Flag.{Flag}
-use Rattle.law_order.specs.pg_register.declared.place.Place.{Place}
-use Rattle.law_order.specs.pg_store.declared.store.Store.{Store}
-use Rattle.law_order.specs.pg_store.declared.wishes.Wish.{Wish}
-use Rattle.law_order.specs.pg_store.Beginning.{begin}
-use Rattle.law_order.specs.pg_store.Births.{draw_birth, with_birth, with_wish}
-use Rattle.law_order.specs.pg_store.Seen.{removed_of}
-use Rattle.law_order.specs.pg_store.Store.{is_full, is_held, replica_at, with_names}
-use Rattle.law_order.specs.pg_store.Together.{AreTogether, HoldsAsBefore, birth_at}
-use Rattle.law_order.specs.pg_store.Views.{enter}
-use Rattle.law_order.proofs.pg_store.Entering.{enter_together}
-use Rattle.law_order.proofs.pg_store.Pairs.{begin_together, together_as_before}
-use Rattle.law_order.specs.pg_pieces.Accepting.{ends_to}
-use Rattle.law_order.specs.pg_pieces.Done.{Done, idle}
-use Rattle.law_order.specs.pg_pieces.Making.{make_flag, own_next}
-use Rattle.law_order.specs.pg_pieces.Taking.{take_entry_noted}
-use Rattle.law_order.specs.pg_graph.Walks.{edges_of}
-use Rattle.law_order.specs.pg_intentions.Seeks.{matches}
-use Rattle.law_order.specs.pg_intentions.Inviting.{first_loose, invite_along, invite_each, invite_of, invites, loose_edge}
-use Rattle.law_order.specs.pg_checks.Asking.{fresh_wish, holder, standing}
-use Rattle.law_order.specs.pg_calls.Calls.{do_call}
-use Rattle.law_order.specs.pg_calls.Dropping.{leave_of}
-use Rattle.law_order.specs.pg_calls.Forgetting.{bare_entry, dead_at, last_place, unfilled, unwished}
-use Rattle.law_order.specs.pg_calls.GivingUp.{doubt_all, enter_view}
-use Rattle.law_order.specs.pg_calls.Making.{drawn, make_place, make_version}
-use Rattle.law_order.specs.pg_calls.Naming.{next_id, with_id}
-use Rattle.law_order.specs.pg_server.Local.{done_of}
-use Rattle.law_order.proofs.pg_calls.Walked.{full_held}
-use Rattle.law_order.proofs.pg_run.Still.{same_mail}
-use Rattle.law_order.proofs.theory_flood_pieces.Choices.{decided}
+use Rattle.pg_run.specs.pg_base.declared.id.FileId.{FileId}
+use Rattle.pg_run.specs.pg_base.declared.policy.Policy.{Policy}
+use Rattle.pg_run.specs.pg_base.declared.policy.Policy.TheVariants.{Last}
+use Rattle.pg_run.specs.pg_patch.Ranges.{RangesValue}
+use Rattle.pg_run.specs.pg_call.declared.call.Call.{Call}
+use Rattle.pg_run.specs.pg_edges.declared.edge.Edge.{Edge}
+use Rattle.pg_run.specs.pg_intent.declared.key.IntentKey.TheVariants as intent_key
+use Rattle.pg_run.specs.pg_msg.declared.message.Message.TheVariants as message
+use Rattle.pg_run.specs.pg_msg.declared.update.Update.TheVariants as update
+use Rattle.pg_run.specs.pg_msg.declared.work.Work.{Work}
+use Rattle.pg_run.specs.pg_msg.Work.{with_made}
+use Rattle.pg_run.specs.pg_names.declared.attributes.Attributes.{Attributes}
+use Rattle.pg_run.specs.pg_names.Names.{blank_own, fill as fill_names, own_at}
+use Rattle.pg_run.specs.pg_register.declared.flag.Flag.{Flag}
+use Rattle.pg_run.specs.pg_register.declared.place.Place.{Place}
+use Rattle.pg_run.specs.pg_store.declared.store.Store.{Store}
+use Rattle.pg_run.specs.pg_store.declared.wishes.Wish.{Wish}
+use Rattle.pg_run.specs.pg_store.Beginning.{begin}
+use Rattle.pg_run.specs.pg_store.Births.{draw_birth, with_birth, with_wish}
+use Rattle.pg_run.specs.pg_store.Seen.{removed_of}
+use Rattle.pg_run.specs.pg_store.Store.{is_full, is_held, replica_at, with_names}
+use Rattle.pg_run.specs.pg_store.Together.{AreTogether, HoldsAsBefore, birth_at}
+use Rattle.pg_run.specs.pg_store.Views.{enter}
+use Rattle.pg_run.proofs.pg_store.Entering.{enter_together}
+use Rattle.pg_run.proofs.pg_store.Pairs.{begin_together, together_as_before}
+use Rattle.pg_run.specs.pg_pieces.Accepting.{ends_to}
+use Rattle.pg_run.specs.pg_pieces.Done.{Done, idle}
+use Rattle.pg_run.specs.pg_pieces.Making.{make_flag, own_next}
+use Rattle.pg_run.specs.pg_pieces.Taking.{take_entry_noted}
+use Rattle.pg_run.specs.pg_graph.Walks.{edges_of}
+use Rattle.pg_run.specs.pg_intentions.Seeks.{matches}
+use Rattle.pg_run.specs.pg_intentions.Inviting.{first_loose, invite_along, invite_each, invite_of, invites, loose_edge}
+use Rattle.pg_run.specs.pg_checks.Asking.{fresh_wish, holder, standing}
+use Rattle.pg_run.specs.pg_calls.Calls.{do_call}
+use Rattle.pg_run.specs.pg_calls.Dropping.{leave_of}
+use Rattle.pg_run.specs.pg_calls.Forgetting.{bare_entry, dead_at, last_place, unfilled, unwished}
+use Rattle.pg_run.specs.pg_calls.GivingUp.{doubt_all, enter_view}
+use Rattle.pg_run.specs.pg_calls.Making.{drawn, make_place, make_version}
+use Rattle.pg_run.specs.pg_calls.Naming.{next_id, with_id}
+use Rattle.pg_run.specs.pg_server.Local.{done_of}
+use Rattle.pg_run.proofs.pg_calls.Walked.{full_held}
+use Rattle.pg_run.proofs.Still.{same_mail}
+use Rattle.pg_run.proofs.theory_flood_pieces.Choices.{decided}
 use Rattle.law_order.proofs.law_frame.Called.{call_keeps}
 use Rattle.law_order.proofs.law_frame.KeepsCalls.{KeepsCalls, lost_own}
 use Rattle.law_births.proofs.EndsSay.{SaysEnds, ends_begin, ends_stay}

@@ -1,41 +1,41 @@
 -- A birth that is to come when an event ends its first effect is there, or is to come, when the
 -- event ends.
 use Rattle.std.proofs.Common.{ℕ, ◌≡◌, ◌⊎◌, Bool, true, false, cond, not, List, [], ◌∷◌, Option, None, Some, inl, inr, refl, sym, ap, ◌∙◌, length, drop}
-use Rattle.law_order.specs.pg_base.declared.id.FileId.{FileId}
-use Rattle.law_order.specs.pg_base.Id.{is_same_file}
-use Rattle.law_order.proofs.pg_base.Orders.{is_same_file-refl, is_same_file-true}
-use Rattle.law_order.specs.pg_intent.declared.intent.Intent.{Intent}
-use Rattle.law_order.specs.pg_intent.declared.intent.Intent.TheVariants as intent
-use Rattle.law_order.specs.pg_intent.declared.key.IntentKey.TheVariants as intent_key
-use Rattle.law_order.specs.pg_intent.Intent.{key_of}
-use Rattle.law_order.specs.pg_intent.Intents.{begun_on}
-use Rattle.law_order.specs.pg_intent.Key.{is_same_key}
-use Rattle.law_order.proofs.pg_intent.Found.{aimed_found}
-use Rattle.law_order.specs.pg_msg.declared.work.Touched.{Touched}
-use Rattle.law_order.specs.pg_msg.declared.work.Work.{Work}
-use Rattle.law_order.specs.pg_register.declared.flag.Flag.{Flag}
-use Rattle.law_order.specs.pg_house.House.{house}
-use Rattle.law_order.specs.pg_house.Work.{state_of}
-use Rattle.law_order.specs.pg_store.declared.store.Store.{Store}
-use Rattle.law_order.specs.pg_store.declared.wishes.Wish.{Wish}
-use Rattle.law_order.specs.pg_store.Births.{birth_of, fill_at, wish_at, with_wishes}
-use Rattle.law_order.specs.pg_store.Servers.{first_target}
-use Rattle.law_order.specs.pg_store.Store.{is_held, is_newer_flag, put_flag, take_flag, touch, with_names}
-use Rattle.law_order.specs.pg_store.Wishes.{without_wish}
-use Rattle.law_order.proofs.pg_store.Wanted.{wish_behind}
-use Rattle.law_order.proofs.pg_store.Wishing.{fill_behind}
-use Rattle.law_order.specs.pg_pieces.Done.{Done, idle}
-use Rattle.law_order.specs.pg_pieces.Making.{own_next}
-use Rattle.law_order.specs.pg_cells.Settling.{rules, settle, touch_all}
-use Rattle.law_order.proofs.pg_cells.Settled.{settle_keeps}
-use Rattle.law_order.specs.pg_intentions.Beginning.{begin_end}
-use Rattle.law_order.specs.pg_intentions.Confirms.{confirm_of}
-use Rattle.law_order.specs.pg_intentions.Fills.{with_fill_birth, wished_birth, without_wished}
-use Rattle.law_order.specs.pg_intentions.Intending.{begin_intent}
-use Rattle.law_order.specs.pg_intentions.Patches.{patch_of}
-use Rattle.law_order.specs.pg_intentions.Seeks.{aim_seek, seek_target}
-use Rattle.law_order.proofs.pg_intentions.Standing.{begun_other}
-use Rattle.law_order.proofs.theory_flood_pieces.Choices.{chosen}
+use Rattle.pg_run.specs.pg_base.declared.id.FileId.{FileId}
+use Rattle.pg_run.specs.pg_base.Id.{is_same_file}
+use Rattle.pg_run.proofs.pg_base.Orders.{is_same_file-refl, is_same_file-true}
+use Rattle.pg_run.specs.pg_intent.declared.intent.Intent.{Intent}
+use Rattle.pg_run.specs.pg_intent.declared.intent.Intent.TheVariants as intent
+use Rattle.pg_run.specs.pg_intent.declared.key.IntentKey.TheVariants as intent_key
+use Rattle.pg_run.specs.pg_intent.Intent.{key_of}
+use Rattle.pg_run.specs.pg_intent.Intents.{begun_on}
+use Rattle.pg_run.specs.pg_intent.Key.{is_same_key}
+use Rattle.pg_run.proofs.pg_intent.Found.{aimed_found}
+use Rattle.pg_run.specs.pg_msg.declared.work.Touched.{Touched}
+use Rattle.pg_run.specs.pg_msg.declared.work.Work.{Work}
+use Rattle.pg_run.specs.pg_register.declared.flag.Flag.{Flag}
+use Rattle.pg_run.specs.pg_house.House.{house}
+use Rattle.pg_run.specs.pg_house.Work.{state_of}
+use Rattle.pg_run.specs.pg_store.declared.store.Store.{Store}
+use Rattle.pg_run.specs.pg_store.declared.wishes.Wish.{Wish}
+use Rattle.pg_run.specs.pg_store.Births.{birth_of, fill_at, wish_at, with_wishes}
+use Rattle.pg_run.specs.pg_store.Servers.{first_target}
+use Rattle.pg_run.specs.pg_store.Store.{is_held, is_newer_flag, put_flag, take_flag, touch, with_names}
+use Rattle.pg_run.specs.pg_store.Wishes.{without_wish}
+use Rattle.pg_run.proofs.pg_store.Wanted.{wish_behind}
+use Rattle.pg_run.proofs.pg_store.Wishing.{fill_behind}
+use Rattle.pg_run.specs.pg_pieces.Done.{Done, idle}
+use Rattle.pg_run.specs.pg_pieces.Making.{own_next}
+use Rattle.pg_run.specs.pg_cells.Settling.{rules, settle, touch_all}
+use Rattle.pg_run.proofs.pg_cells.Settled.{settle_keeps}
+use Rattle.pg_run.specs.pg_intentions.Beginning.{begin_end}
+use Rattle.pg_run.specs.pg_intentions.Confirms.{confirm_of}
+use Rattle.pg_run.specs.pg_intentions.Fills.{with_fill_birth, wished_birth, without_wished}
+use Rattle.pg_run.specs.pg_intentions.Intending.{begin_intent}
+use Rattle.pg_run.specs.pg_intentions.Patches.{patch_of}
+use Rattle.pg_run.specs.pg_intentions.Seeks.{aim_seek, seek_target}
+use Rattle.pg_run.proofs.pg_intentions.Standing.{begun_other}
+use Rattle.pg_run.proofs.theory_flood_pieces.Choices.{chosen}
 use Rattle.law_order.proofs.law_frame.Ended.{intents_keep}
 use Rattle.law_births.proofs.Has.{IsFilled, IsWished}
 use Rattle.law_births.proofs.Intends.{With, none_of}

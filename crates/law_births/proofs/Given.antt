@@ -3,7 +3,7 @@ use Rattle.std.proofs.Common.{ℕ}
 use Rattle.law_births.specs.Premises.{FillsAlwaysStand, MakersHold, NextIdsAreFree, StoresAreWhole}
 use Rattle.law_births.proofs.Makers.{makers_hold}
 use Rattle.law_order.proofs.Told.{ids_new, servers_whole}
-use Rattle.law_order.specs.pg_run.Intending.{IntentionsAreInOrder}
+use Rattle.pg_run.specs.Intending.{IntentionsAreInOrder}
 
 pub fills_stand : (n : ℕ) → IntentionsAreInOrder n → FillsAlwaysStand n
 fills_stand n k events s least most = (k events s least most).fills

@@ -2,39 +2,39 @@
 use Rattle.std.proofs.Common.{ℕ, ◌≡◌, ◌≤◌, ◌<◌, ◌++◌, arith, true, cond, not, List, [], ◌∷◌, append_assoc, is_some, inl, inr, sym, ap, subst, ◌∙◌}
 use Rattle.std.specs.Prelude.{Contains}
 use Rattle.std.proofs.lemmas.Bool.{and_parts, false≢true, not-true}
-use Rattle.law_order.specs.pg_base.declared.id.FileId.{FileId}
-use Rattle.law_order.specs.pg_base.declared.stamp.Stamp.{Stamp}
-use Rattle.law_order.specs.pg_event.declared.event.Event.{Event}
-use Rattle.law_order.proofs.theory_flood.Flood.{after_itself}
-use Rattle.law_order.specs.pg_intent.declared.key.IntentKey.TheVariants as intent_key
-use Rattle.law_order.specs.pg_msg.declared.message.Ends.{Ends}
-use Rattle.law_order.specs.pg_msg.declared.message.Message.{Message}
-use Rattle.law_order.specs.pg_msg.declared.message.Message.TheVariants as message
-use Rattle.law_order.specs.pg_msg.declared.message.Packet.{Packet}
-use Rattle.law_order.specs.pg_msg.declared.message.Sent.{Sent}
-use Rattle.law_order.specs.pg_msg.Work.{new_work}
-use Rattle.law_order.specs.pg_pieces.declared.accepting.EdgeUse.TheVariants as manner
-use Rattle.law_order.specs.pg_pieces.Accepting.{is_accepted, is_current}
-use Rattle.law_order.specs.pg_pieces.Done.{Done, idle}
-use Rattle.law_order.specs.pg_pieces.Parting.{stays_for}
-use Rattle.law_order.specs.pg_graph.Leaving.{goes, goes_now, goes_or_stays, may_leave, without_leave}
-use Rattle.law_order.proofs.pg_graph.LeaveOk.{stays_not}
-use Rattle.law_order.specs.pg_server.declared.input.Input.{Input}
-use Rattle.law_order.specs.pg_server.declared.input.Input.TheVariants as input
-use Rattle.law_order.specs.pg_server.Local.{effect, first_effect, is_heard, receive}
-use Rattle.law_order.specs.pg_store.declared.store.Store.{Store}
-use Rattle.law_order.specs.pg_store.Beginning.{let_go}
-use Rattle.law_order.specs.pg_store.Births.{birth_of, has_birth}
-use Rattle.law_order.specs.pg_store.Store.{replica_at, replica_of}
-use Rattle.law_order.specs.pg_store.Together.{IsOver}
-use Rattle.law_order.proofs.pg_store.Over.{goes_over, none_fills}
-use Rattle.law_order.specs.pg_run.Births.{AllNamed, GoneSays, IsBirthAt, WasGivenOut}
-use Rattle.law_order.specs.pg_run.Intending.{IntentionsAreInOrder}
-use Rattle.law_order.specs.pg_run.Journal.{mail}
-use Rattle.law_order.specs.pg_run.Laws.{TakesIn, store_after}
-use Rattle.law_order.specs.pg_run.Leaving.{ByesAreOfOver}
-use Rattle.law_order.specs.pg_run.Run.{Step, World, run, start}
-use Rattle.law_order.proofs.pg_run.Frame.{HasCome, next_is, run_more}
+use Rattle.pg_run.specs.pg_base.declared.id.FileId.{FileId}
+use Rattle.pg_run.specs.pg_base.declared.stamp.Stamp.{Stamp}
+use Rattle.pg_run.specs.pg_event.declared.event.Event.{Event}
+use Rattle.pg_run.proofs.theory_flood.Flood.{after_itself}
+use Rattle.pg_run.specs.pg_intent.declared.key.IntentKey.TheVariants as intent_key
+use Rattle.pg_run.specs.pg_msg.declared.message.Ends.{Ends}
+use Rattle.pg_run.specs.pg_msg.declared.message.Message.{Message}
+use Rattle.pg_run.specs.pg_msg.declared.message.Message.TheVariants as message
+use Rattle.pg_run.specs.pg_msg.declared.message.Packet.{Packet}
+use Rattle.pg_run.specs.pg_msg.declared.message.Sent.{Sent}
+use Rattle.pg_run.specs.pg_msg.Work.{new_work}
+use Rattle.pg_run.specs.pg_pieces.declared.accepting.EdgeUse.TheVariants as manner
+use Rattle.pg_run.specs.pg_pieces.Accepting.{is_accepted, is_current}
+use Rattle.pg_run.specs.pg_pieces.Done.{Done, idle}
+use Rattle.pg_run.specs.pg_pieces.Parting.{stays_for}
+use Rattle.pg_run.specs.pg_graph.Leaving.{goes, goes_now, goes_or_stays, may_leave, without_leave}
+use Rattle.pg_run.proofs.pg_graph.LeaveOk.{stays_not}
+use Rattle.pg_run.specs.pg_server.declared.input.Input.{Input}
+use Rattle.pg_run.specs.pg_server.declared.input.Input.TheVariants as input
+use Rattle.pg_run.specs.pg_server.Local.{effect, first_effect, is_heard, receive}
+use Rattle.pg_run.specs.pg_store.declared.store.Store.{Store}
+use Rattle.pg_run.specs.pg_store.Beginning.{let_go}
+use Rattle.pg_run.specs.pg_store.Births.{birth_of, has_birth}
+use Rattle.pg_run.specs.pg_store.Store.{replica_at, replica_of}
+use Rattle.pg_run.specs.pg_store.Together.{IsOver}
+use Rattle.pg_run.proofs.pg_store.Over.{goes_over, none_fills}
+use Rattle.pg_run.specs.Births.{AllNamed, GoneSays, IsBirthAt, WasGivenOut}
+use Rattle.pg_run.specs.Intending.{IntentionsAreInOrder}
+use Rattle.pg_run.specs.Journal.{mail}
+use Rattle.pg_run.specs.Laws.{TakesIn, store_after}
+use Rattle.pg_run.specs.Leaving.{ByesAreOfOver}
+use Rattle.pg_run.specs.Run.{Step, World, run, start}
+use Rattle.pg_run.proofs.Frame.{HasCome, next_is, run_more}
 use Rattle.law_births.specs.Premises.{FillsAlwaysStand, MakersHold, NextIdsAreFree, StoresAreWhole}
 use Rattle.law_births.proofs.Alone.{alone_always, births_are_alone, goes_from}
 use Rattle.law_births.proofs.Effects.{end_moves}

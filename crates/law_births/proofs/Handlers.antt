@@ -2,29 +2,29 @@
 use Rattle.std.proofs.Common.{ℕ, ◌≡◌, Bool, true, false, List, Some, refl, sym, subst, ◌∙◌, inl}
 use Rattle.std.proofs.lemmas.Bool.{false≢true}
 use Rattle.std.proofs.lemmas.Option.{none-some}
-use Rattle.law_order.specs.pg_base.declared.id.FileId.{FileId}
-use Rattle.law_order.specs.pg_entries.declared.cell.Cell.{Cell}
-use Rattle.law_order.specs.pg_entries.declared.cell.Cell.TheVariants as cells
-use Rattle.law_order.specs.pg_intent.declared.key.IntentKey.TheVariants as intent_key
-use Rattle.law_order.specs.pg_intent.Intents.{aimed}
-use Rattle.law_order.specs.pg_msg.declared.message.Message.{Message}
-use Rattle.law_order.specs.pg_msg.declared.message.Message.TheVariants as message
-use Rattle.law_order.specs.pg_msg.declared.work.Work.{Work}
-use Rattle.law_order.specs.pg_names.Names.{fill as fill_names}
-use Rattle.law_order.specs.pg_store.declared.store.Store.{Store}
-use Rattle.law_order.specs.pg_store.Beginning.{with_intents}
-use Rattle.law_order.specs.pg_store.Births.{with_wishes}
-use Rattle.law_order.specs.pg_store.Links.{link}
-use Rattle.law_order.specs.pg_store.Store.{acknowledge, keep_delta, take_entry, take_flag, take_place, take_version, with_names}
-use Rattle.law_order.specs.pg_store.Wishes.{aim_wish}
-use Rattle.law_order.proofs.pg_store.Given.{pending_may}
-use Rattle.law_order.proofs.pg_store.Pairs.{link_as_before}
-use Rattle.law_order.specs.pg_cells.Cells.{taken}
-use Rattle.law_order.specs.pg_pieces.Done.{Done, link_of}
-use Rattle.law_order.specs.pg_pieces.Making.{own_next}
-use Rattle.law_order.specs.pg_repair.Granting.{granted_own}
-use Rattle.law_order.specs.pg_server.Local.{receive}
-use Rattle.law_order.specs.pg_server.pg_transfer.Asking.{with_notes}
+use Rattle.pg_run.specs.pg_base.declared.id.FileId.{FileId}
+use Rattle.pg_run.specs.pg_entries.declared.cell.Cell.{Cell}
+use Rattle.pg_run.specs.pg_entries.declared.cell.Cell.TheVariants as cells
+use Rattle.pg_run.specs.pg_intent.declared.key.IntentKey.TheVariants as intent_key
+use Rattle.pg_run.specs.pg_intent.Intents.{aimed}
+use Rattle.pg_run.specs.pg_msg.declared.message.Message.{Message}
+use Rattle.pg_run.specs.pg_msg.declared.message.Message.TheVariants as message
+use Rattle.pg_run.specs.pg_msg.declared.work.Work.{Work}
+use Rattle.pg_run.specs.pg_names.Names.{fill as fill_names}
+use Rattle.pg_run.specs.pg_store.declared.store.Store.{Store}
+use Rattle.pg_run.specs.pg_store.Beginning.{with_intents}
+use Rattle.pg_run.specs.pg_store.Births.{with_wishes}
+use Rattle.pg_run.specs.pg_store.Links.{link}
+use Rattle.pg_run.specs.pg_store.Store.{acknowledge, keep_delta, take_entry, take_flag, take_place, take_version, with_names}
+use Rattle.pg_run.specs.pg_store.Wishes.{aim_wish}
+use Rattle.pg_run.proofs.pg_store.Given.{pending_may}
+use Rattle.pg_run.proofs.pg_store.Pairs.{link_as_before}
+use Rattle.pg_run.specs.pg_cells.Cells.{taken}
+use Rattle.pg_run.specs.pg_pieces.Done.{Done, link_of}
+use Rattle.pg_run.specs.pg_pieces.Making.{own_next}
+use Rattle.pg_run.specs.pg_repair.Granting.{granted_own}
+use Rattle.pg_run.specs.pg_server.Local.{receive}
+use Rattle.pg_run.specs.pg_server.pg_transfer.Asking.{with_notes}
 use Rattle.law_order.proofs.law_frame.Keeps.{Keeps, unlinking}
 use Rattle.law_order.proofs.law_frame.Received.{receive_keeps}
 use Rattle.law_births.proofs.Has.{Goes, IsAlone, before_goes, goes_itself, goes_then}

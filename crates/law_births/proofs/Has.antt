@@ -2,20 +2,20 @@
 use Rattle.std.proofs.Common.{ℕ, ◌≡◌, ◌≤◌, ◌<◌, ◌+◌, ◌&&◌, ◌||◌, ◌⊎◌, arith, Bool, true, false, not, Option, None, Some, is_some, inl, inr, refl, sym, ap, subst, ◌∙◌, eq-eqb}
 use Rattle.std.specs.Option.{option_map}
 use Rattle.std.proofs.lemmas.Bool.{eqb-true, false≢true, or_left, or_right, false_from_ne_true}
-use Rattle.law_order.specs.pg_base.declared.id.FileId.{FileId}
-use Rattle.law_order.specs.pg_intent.declared.intent.Intent.{Intent}
-use Rattle.law_order.specs.pg_intent.declared.intent.Intent.TheVariants as intent
-use Rattle.law_order.specs.pg_replica.declared.replica.Replica.{Replica}
-use Rattle.law_order.specs.pg_store.declared.store.Store.{Store}
-use Rattle.law_order.specs.pg_store.declared.wishes.Wish.{Wish}
-use Rattle.law_order.specs.pg_store.Store.{is_held, replica_at}
-use Rattle.law_order.specs.pg_replica.Replicas.{is_of_birth}
-use Rattle.law_order.specs.pg_store.Births.{fill_at, has_birth, is_fill_at, is_pending, wish_at}
-use Rattle.law_order.specs.pg_store.Wishes.{is_with_birth}
-use Rattle.law_order.specs.pg_store.Together.{AreBirths, AreTogether, HoldsAsBefore, IsGiven, IsOver, birth_at}
-use Rattle.law_order.proofs.pg_store.Pairs.{together_as_before}
-use Rattle.law_order.proofs.pg_store.Given.{births_as_before, same_fill}
-use Rattle.law_order.specs.pg_run.Births.{IsBirthAt}
+use Rattle.pg_run.specs.pg_base.declared.id.FileId.{FileId}
+use Rattle.pg_run.specs.pg_intent.declared.intent.Intent.{Intent}
+use Rattle.pg_run.specs.pg_intent.declared.intent.Intent.TheVariants as intent
+use Rattle.pg_run.specs.pg_replica.declared.replica.Replica.{Replica}
+use Rattle.pg_run.specs.pg_store.declared.store.Store.{Store}
+use Rattle.pg_run.specs.pg_store.declared.wishes.Wish.{Wish}
+use Rattle.pg_run.specs.pg_store.Store.{is_held, replica_at}
+use Rattle.pg_run.specs.pg_replica.Replicas.{is_of_birth}
+use Rattle.pg_run.specs.pg_store.Births.{fill_at, has_birth, is_fill_at, is_pending, wish_at}
+use Rattle.pg_run.specs.pg_store.Wishes.{is_with_birth}
+use Rattle.pg_run.specs.pg_store.Together.{AreBirths, AreTogether, HoldsAsBefore, IsGiven, IsOver, birth_at}
+use Rattle.pg_run.proofs.pg_store.Pairs.{together_as_before}
+use Rattle.pg_run.proofs.pg_store.Given.{births_as_before, same_fill}
+use Rattle.pg_run.specs.Births.{IsBirthAt}
 use Rattle.law_births.proofs.Here.{of_birth}
 
 -- ---- which births

@@ -2,22 +2,22 @@
 use Rattle.std.proofs.Common.{ℕ, ◌≡◌, Bool, true, cond, Option, None, Some, ap, ◌∙◌}
 use Rattle.std.specs.Option.{option_map}
 use Rattle.std.proofs.lemmas.Bool.{eqb-true}
-use Rattle.law_order.specs.pg_base.declared.id.FileId.{FileId}
-use Rattle.law_order.specs.pg_base.declared.policy.Policy.{Policy}
-use Rattle.law_order.specs.pg_base.Id.{file_cmp}
-use Rattle.law_order.proofs.pg_base.Maps.{lookup-insert_entry}
-use Rattle.law_order.proofs.pg_base.Orders.{file_total, is_same_file-refl}
-use Rattle.law_order.specs.pg_names.declared.attributes.Attributes.{Attributes}
-use Rattle.law_order.specs.pg_replica.declared.replica.Replica.{Replica}
-use Rattle.law_order.specs.pg_replica.Replica.{new_replica}
-use Rattle.law_order.specs.pg_replica.Replicas.{is_of_birth, or_nothing}
-use Rattle.law_order.specs.pg_store.declared.store.Store.{Store}
-use Rattle.law_order.specs.pg_store.Beginning.{begin, patches_of, put_new}
-use Rattle.law_order.specs.pg_store.Births.{birth_of}
-use Rattle.law_order.specs.pg_store.Store.{is_held, replica_at}
-use Rattle.law_order.specs.pg_store.Together.{AreTogether, birth_at}
-use Rattle.law_order.proofs.pg_store.Pairs.{patches_as_before}
-use Rattle.law_order.proofs.theory_flood_pieces.Together.{replica_of_held}
+use Rattle.pg_run.specs.pg_base.declared.id.FileId.{FileId}
+use Rattle.pg_run.specs.pg_base.declared.policy.Policy.{Policy}
+use Rattle.pg_run.specs.pg_base.Id.{file_cmp}
+use Rattle.pg_run.proofs.pg_base.Maps.{lookup-insert_entry}
+use Rattle.pg_run.proofs.pg_base.Orders.{file_total, is_same_file-refl}
+use Rattle.pg_run.specs.pg_names.declared.attributes.Attributes.{Attributes}
+use Rattle.pg_run.specs.pg_replica.declared.replica.Replica.{Replica}
+use Rattle.pg_run.specs.pg_replica.Replica.{new_replica}
+use Rattle.pg_run.specs.pg_replica.Replicas.{is_of_birth, or_nothing}
+use Rattle.pg_run.specs.pg_store.declared.store.Store.{Store}
+use Rattle.pg_run.specs.pg_store.Beginning.{begin, patches_of, put_new}
+use Rattle.pg_run.specs.pg_store.Births.{birth_of}
+use Rattle.pg_run.specs.pg_store.Store.{is_held, replica_at}
+use Rattle.pg_run.specs.pg_store.Together.{AreTogether, birth_at}
+use Rattle.pg_run.proofs.pg_store.Pairs.{patches_as_before}
+use Rattle.pg_run.proofs.theory_flood_pieces.Together.{replica_of_held}
 
 born_is : (o : Option Replica) (n : ℕ) → option_map (λ (x : Replica). x.birth) o ≡ Some n → (or_nothing o).birth ≡ n
 born_is None n there = cc

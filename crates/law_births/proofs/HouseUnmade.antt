@@ -1,23 +1,23 @@
 -- House rules make no versions.
 use Rattle.std.proofs.Common.{ℕ, zero, suc, List, length, Option, None, Some, refl, ap, ◌∙◌}
-use Rattle.law_order.specs.pg_base.declared.id.FileId.{FileId}
-use Rattle.law_order.specs.pg_edges.declared.key.Key.TheVariants as key
-use Rattle.law_order.specs.pg_msg.declared.update.Update.TheVariants as update
-use Rattle.law_order.specs.pg_msg.declared.work.Work.{Work}
-use Rattle.law_order.specs.pg_msg.Work.{with_made, with_touched}
-use Rattle.law_order.specs.pg_register.Place.{root, tilde_name}
-use Rattle.law_order.specs.pg_names.Names.{directories}
-use Rattle.law_order.specs.pg_house.Work.{State}
-use Rattle.law_order.specs.pg_house.Cycles.{break_first, first_moving, moved}
-use Rattle.law_order.specs.pg_house.House.{house, movable}
-use Rattle.law_order.specs.pg_house.Passing.{pass_all}
-use Rattle.law_order.specs.pg_house.Placing.{drawn, live_place, made_at, place_at, placed, repeated}
-use Rattle.law_order.specs.pg_house.Returning.{first_returning, return_first, returned}
-use Rattle.law_order.proofs.pg_house.Made.{all_made, left_made, pass_made}
-use Rattle.law_order.specs.pg_store.declared.store.Store.{Store}
-use Rattle.law_order.specs.pg_cells.Settling.{settle}
-use Rattle.law_order.proofs.pg_cells.Settled.{settle_keeps}
-use Rattle.law_order.specs.pg_run.Journal.{versions_in}
+use Rattle.pg_run.specs.pg_base.declared.id.FileId.{FileId}
+use Rattle.pg_run.specs.pg_edges.declared.key.Key.TheVariants as key
+use Rattle.pg_run.specs.pg_msg.declared.update.Update.TheVariants as update
+use Rattle.pg_run.specs.pg_msg.declared.work.Work.{Work}
+use Rattle.pg_run.specs.pg_msg.Work.{with_made, with_touched}
+use Rattle.pg_run.specs.pg_register.Place.{root, tilde_name}
+use Rattle.pg_run.specs.pg_names.Names.{directories}
+use Rattle.pg_run.specs.pg_house.Work.{State}
+use Rattle.pg_run.specs.pg_house.Cycles.{break_first, first_moving, moved}
+use Rattle.pg_run.specs.pg_house.House.{house, movable}
+use Rattle.pg_run.specs.pg_house.Passing.{pass_all}
+use Rattle.pg_run.specs.pg_house.Placing.{drawn, live_place, made_at, place_at, placed, repeated}
+use Rattle.pg_run.specs.pg_house.Returning.{first_returning, return_first, returned}
+use Rattle.pg_run.proofs.pg_house.Made.{all_made, left_made, pass_made}
+use Rattle.pg_run.specs.pg_store.declared.store.Store.{Store}
+use Rattle.pg_run.specs.pg_cells.Settling.{settle}
+use Rattle.pg_run.proofs.pg_cells.Settled.{settle_keeps}
+use Rattle.pg_run.specs.Journal.{versions_in}
 use Rattle.law_births.proofs.Unmade.{MakesNone, name_after, raised_none}
 
 module _ (moment : ℕ) (ds : List FileId) where

@@ -3,40 +3,40 @@
 use Rattle.std.proofs.Common.{ℕ, ◌≡◌, ◌≤◌, ◌+◌, ◌⊎◌, arith, Bool, true, false, cond, not, filter, Option, None, Some, is_some, inl, inr, refl, sym, ap, ◌∙◌}
 use Rattle.std.specs.Option.{option_map}
 use Rattle.std.proofs.lemmas.Bool.{false≢true}
-use Rattle.law_order.specs.pg_base.declared.id.FileId.{FileId}
-use Rattle.law_order.specs.pg_base.Id.{is_same_file}
-use Rattle.law_order.proofs.pg_base.Orders.{is_same_file-refl, is_same_file-true}
-use Rattle.law_order.specs.pg_intent.declared.intent.Intent.{Intent}
-use Rattle.law_order.specs.pg_intent.declared.intent.Intent.TheVariants as intent
-use Rattle.law_order.specs.pg_intent.declared.key.IntentKey.TheVariants as intent_key
-use Rattle.law_order.specs.pg_intent.Intent.{key_of}
-use Rattle.law_order.specs.pg_intent.Intents.{begun, has_key}
-use Rattle.law_order.specs.pg_intent.Key.{is_same_key}
-use Rattle.law_order.specs.pg_msg.declared.work.Work.{Work}
-use Rattle.law_order.specs.pg_replica.Index.{Files}
-use Rattle.law_order.specs.pg_replica.declared.replica.Replica.{Replica}
-use Rattle.law_order.specs.pg_replica.Replicas.{or_nothing}
-use Rattle.law_order.specs.pg_store.declared.store.Store.{Store}
-use Rattle.law_order.specs.pg_store.declared.wishes.Wish.{Wish}
-use Rattle.law_order.specs.pg_store.Store.{is_held, replica_at}
-use Rattle.law_order.specs.pg_store.Beginning.{with_intents}
-use Rattle.law_order.specs.pg_store.Births.{birth_of, draw_birth, fill_at, wish_at, with_birth, with_wishes}
-use Rattle.law_order.specs.pg_store.Servers.{first_target}
-use Rattle.law_order.specs.pg_store.Wishes.{without_wish}
-use Rattle.law_order.specs.pg_store.Together.{AreBirths, AreTogether, birth_at}
-use Rattle.law_order.proofs.pg_store.Pairs.{intents_as_before}
-use Rattle.law_order.proofs.pg_store.Given.{births_as_before, left_by}
-use Rattle.law_order.proofs.pg_store.Wanted.{wish_behind}
-use Rattle.law_order.proofs.pg_store.Wishing.{fill_births, fill_there}
-use Rattle.law_order.proofs.pg_store.Aiming.{gone_as_before}
-use Rattle.law_order.specs.pg_pieces.Done.{Done, idle}
-use Rattle.law_order.specs.pg_intentions.Beginning.{begin_end, end_others, still_stands}
-use Rattle.law_order.specs.pg_intentions.Confirms.{confirm_of}
-use Rattle.law_order.specs.pg_intentions.Fills.{files_to_fill, is_in, wished_birth, with_fill_birth, without_wished}
-use Rattle.law_order.specs.pg_intentions.Intending.{begin_intent}
-use Rattle.law_order.specs.pg_intentions.Patches.{patch_of}
-use Rattle.law_order.specs.pg_intentions.Seeks.{seek_target}
-use Rattle.law_order.proofs.pg_intentions.Standing.{filtered}
+use Rattle.pg_run.specs.pg_base.declared.id.FileId.{FileId}
+use Rattle.pg_run.specs.pg_base.Id.{is_same_file}
+use Rattle.pg_run.proofs.pg_base.Orders.{is_same_file-refl, is_same_file-true}
+use Rattle.pg_run.specs.pg_intent.declared.intent.Intent.{Intent}
+use Rattle.pg_run.specs.pg_intent.declared.intent.Intent.TheVariants as intent
+use Rattle.pg_run.specs.pg_intent.declared.key.IntentKey.TheVariants as intent_key
+use Rattle.pg_run.specs.pg_intent.Intent.{key_of}
+use Rattle.pg_run.specs.pg_intent.Intents.{begun, has_key}
+use Rattle.pg_run.specs.pg_intent.Key.{is_same_key}
+use Rattle.pg_run.specs.pg_msg.declared.work.Work.{Work}
+use Rattle.pg_run.specs.pg_replica.Index.{Files}
+use Rattle.pg_run.specs.pg_replica.declared.replica.Replica.{Replica}
+use Rattle.pg_run.specs.pg_replica.Replicas.{or_nothing}
+use Rattle.pg_run.specs.pg_store.declared.store.Store.{Store}
+use Rattle.pg_run.specs.pg_store.declared.wishes.Wish.{Wish}
+use Rattle.pg_run.specs.pg_store.Store.{is_held, replica_at}
+use Rattle.pg_run.specs.pg_store.Beginning.{with_intents}
+use Rattle.pg_run.specs.pg_store.Births.{birth_of, draw_birth, fill_at, wish_at, with_birth, with_wishes}
+use Rattle.pg_run.specs.pg_store.Servers.{first_target}
+use Rattle.pg_run.specs.pg_store.Wishes.{without_wish}
+use Rattle.pg_run.specs.pg_store.Together.{AreBirths, AreTogether, birth_at}
+use Rattle.pg_run.proofs.pg_store.Pairs.{intents_as_before}
+use Rattle.pg_run.proofs.pg_store.Given.{births_as_before, left_by}
+use Rattle.pg_run.proofs.pg_store.Wanted.{wish_behind}
+use Rattle.pg_run.proofs.pg_store.Wishing.{fill_births, fill_there}
+use Rattle.pg_run.proofs.pg_store.Aiming.{gone_as_before}
+use Rattle.pg_run.specs.pg_pieces.Done.{Done, idle}
+use Rattle.pg_run.specs.pg_intentions.Beginning.{begin_end, end_others, still_stands}
+use Rattle.pg_run.specs.pg_intentions.Confirms.{confirm_of}
+use Rattle.pg_run.specs.pg_intentions.Fills.{files_to_fill, is_in, wished_birth, with_fill_birth, without_wished}
+use Rattle.pg_run.specs.pg_intentions.Intending.{begin_intent}
+use Rattle.pg_run.specs.pg_intentions.Patches.{patch_of}
+use Rattle.pg_run.specs.pg_intentions.Seeks.{seek_target}
+use Rattle.pg_run.proofs.pg_intentions.Standing.{filtered}
 use Rattle.law_order.proofs.law_frame.Ended.{intents_keep}
 use Rattle.law_births.proofs.Has.{Goes, Has, IsAlone, before_goes, goes_itself, goes_then, has_given, none_new, one_new}
 use Rattle.law_births.proofs.Begins.{aim_goes, behind_birth, fresh_given}

@@ -3,41 +3,41 @@ use Rattle.std.proofs.Common.{ℕ, ◌≡◌, ◌≤◌, ◌<◌, ◌&&◌, ◌�
 use Rattle.std.specs.Option.{option_map}
 use Rattle.std.specs.BTreeMap.{is_at}
 use Rattle.std.proofs.lemmas.Bool.{false≢true}
-use Rattle.law_order.specs.pg_base.declared.id.FileId.{FileId}
-use Rattle.law_order.specs.pg_base.declared.stamp.Stamp.{Stamp}
-use Rattle.law_order.specs.pg_base.Id.{file_cmp}
-use Rattle.law_order.proofs.pg_base.Orders.{is_same_file-refl, is_same_file-true}
-use Rattle.law_order.specs.pg_edges.declared.edge.Edge.{Edge}
-use Rattle.law_order.specs.pg_intent.declared.intent.Intent.{Intent}
-use Rattle.law_order.specs.pg_intent.declared.key.IntentKey.TheVariants as intent_key
-use Rattle.law_order.specs.pg_intent.Intent.{key_of}
-use Rattle.law_order.specs.pg_intent.Intents.{begun}
-use Rattle.law_order.specs.pg_intent.Key.{is_same_key}
-use Rattle.law_order.specs.pg_msg.declared.message.Ends.{Ends}
-use Rattle.law_order.specs.pg_msg.declared.message.Message.{Message}
-use Rattle.law_order.specs.pg_msg.declared.message.Message.TheVariants as message
-use Rattle.law_order.specs.pg_msg.declared.work.Work.{Work}
-use Rattle.law_order.specs.pg_names.Names.{InodeValue, known}
-use Rattle.law_order.specs.pg_replica.declared.replica.Replica.{Replica}
-use Rattle.law_order.proofs.pg_replica.Going.{replica_behind}
-use Rattle.law_order.specs.pg_store.declared.store.Store.{Store}
-use Rattle.law_order.specs.pg_store.Beginning.{let_go}
-use Rattle.law_order.specs.pg_store.Births.{birth_of, fill_at, has_birth, is_pending}
-use Rattle.law_order.specs.pg_store.Store.{is_held, replica_at, replica_of}
-use Rattle.law_order.specs.pg_store.Together.{BirthsMove}
-use Rattle.law_order.proofs.pg_store.Going.{born_left, go_births, go_together}
-use Rattle.law_order.proofs.pg_store.Over.{goes_over, known_behind, none_fills}
-use Rattle.law_order.proofs.pg_store.Pairs.{intents_as_before}
-use Rattle.law_order.specs.pg_pieces.Done.{Done, idle}
-use Rattle.law_order.specs.pg_pieces.Intending.{begin_intent}
-use Rattle.law_order.specs.pg_pieces.Parting.{stays_for}
-use Rattle.law_order.specs.pg_graph.Leaving.{begin_byes, bye_to, goes, goes_now, goes_or_stays, leave_ok, may_leave, without_leave}
-use Rattle.law_order.proofs.pg_graph.LeaveOk.{byes_by, stays_not}
-use Rattle.law_order.proofs.pg_intentions.Standing.{begun_other}
-use Rattle.law_order.proofs.theory_flood_pieces.Choices.{decided}
-use Rattle.law_order.proofs.pg_run.Bags.{All-every}
+use Rattle.pg_run.specs.pg_base.declared.id.FileId.{FileId}
+use Rattle.pg_run.specs.pg_base.declared.stamp.Stamp.{Stamp}
+use Rattle.pg_run.specs.pg_base.Id.{file_cmp}
+use Rattle.pg_run.proofs.pg_base.Orders.{is_same_file-refl, is_same_file-true}
+use Rattle.pg_run.specs.pg_edges.declared.edge.Edge.{Edge}
+use Rattle.pg_run.specs.pg_intent.declared.intent.Intent.{Intent}
+use Rattle.pg_run.specs.pg_intent.declared.key.IntentKey.TheVariants as intent_key
+use Rattle.pg_run.specs.pg_intent.Intent.{key_of}
+use Rattle.pg_run.specs.pg_intent.Intents.{begun}
+use Rattle.pg_run.specs.pg_intent.Key.{is_same_key}
+use Rattle.pg_run.specs.pg_msg.declared.message.Ends.{Ends}
+use Rattle.pg_run.specs.pg_msg.declared.message.Message.{Message}
+use Rattle.pg_run.specs.pg_msg.declared.message.Message.TheVariants as message
+use Rattle.pg_run.specs.pg_msg.declared.work.Work.{Work}
+use Rattle.pg_run.specs.pg_names.Names.{InodeValue, known}
+use Rattle.pg_run.specs.pg_replica.declared.replica.Replica.{Replica}
+use Rattle.pg_run.proofs.pg_replica.Going.{replica_behind}
+use Rattle.pg_run.specs.pg_store.declared.store.Store.{Store}
+use Rattle.pg_run.specs.pg_store.Beginning.{let_go}
+use Rattle.pg_run.specs.pg_store.Births.{birth_of, fill_at, has_birth, is_pending}
+use Rattle.pg_run.specs.pg_store.Store.{is_held, replica_at, replica_of}
+use Rattle.pg_run.specs.pg_store.Together.{BirthsMove}
+use Rattle.pg_run.proofs.pg_store.Going.{born_left, go_births, go_together}
+use Rattle.pg_run.proofs.pg_store.Over.{goes_over, known_behind, none_fills}
+use Rattle.pg_run.proofs.pg_store.Pairs.{intents_as_before}
+use Rattle.pg_run.specs.pg_pieces.Done.{Done, idle}
+use Rattle.pg_run.specs.pg_pieces.Intending.{begin_intent}
+use Rattle.pg_run.specs.pg_pieces.Parting.{stays_for}
+use Rattle.pg_run.specs.pg_graph.Leaving.{begin_byes, bye_to, goes, goes_now, goes_or_stays, leave_ok, may_leave, without_leave}
+use Rattle.pg_run.proofs.pg_graph.LeaveOk.{byes_by, stays_not}
+use Rattle.pg_run.proofs.pg_intentions.Standing.{begun_other}
+use Rattle.pg_run.proofs.theory_flood_pieces.Choices.{decided}
+use Rattle.pg_run.proofs.Bags.{All-every}
 use Rattle.law_births.proofs.Ends.{ends}
-use Rattle.law_order.specs.pg_run.Births.{StaysOrGoes}
+use Rattle.pg_run.specs.Births.{StaysOrGoes}
 use Rattle.law_births.proofs.Has.{Goes, Has, IsAlone, as_was, born_of, from_has, held_born, none_new, pending_has, to_has, unheld}
 use Rattle.law_births.proofs.Here.{of_birth}
 use Rattle.law_births.proofs.Moving.{AnyWhy, Keeps, Moves, WentOff, Why, keeps_same, moves_itself, moves_stay, some_shape, stay_moves, stays_moves}

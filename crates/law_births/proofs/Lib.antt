@@ -41,16 +41,3 @@ mod ByeCalls
 pub mod ByeEvents
 pub mod Owing
 mod Went
-pub use Rattle.law_order.proofs.pg_base as pg_base
-pub use Rattle.law_order.proofs.pg_register as pg_register
-pub use Rattle.law_order.proofs.pg_edges as pg_edges
-pub use Rattle.law_order.proofs.pg_intent as pg_intent
-pub use Rattle.law_order.proofs.pg_content as pg_content
-pub use Rattle.law_order.proofs.theory_flood as theory_flood
-pub use Rattle.law_order.proofs.pg_replica as pg_replica
-pub use Rattle.law_order.proofs.pg_store as pg_store
-pub use Rattle.law_order.proofs.pg_cells as pg_cells
-pub use Rattle.law_order.proofs.pg_graph as pg_graph
-pub use Rattle.law_order.proofs.pg_intentions as pg_intentions
-pub use Rattle.law_order.proofs.theory_flood_pieces as theory_flood_pieces
-pub use Rattle.law_order.proofs.pg_run as pg_run

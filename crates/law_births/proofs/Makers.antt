@@ -2,66 +2,66 @@
 -- replica.
 use Rattle.std.proofs.Common.{ℕ, ◌≡◌, ◌==◌, true, false, List, [], ◌∷◌, ◌++◌, Option, None, Some, Result, Ok, Err, is_some, option_map, refl, sym, ap, subst, ◌∙◌, All}
 use Rattle.std.proofs.lemmas.List.Elements.{All-cons, All-nil, All-weaker}
-use Rattle.law_order.specs.pg_base.declared.id.FileId.{FileId}
-use Rattle.law_order.specs.pg_base.declared.id.Kind.TheVariants.{File}
-use Rattle.law_order.specs.pg_base.declared.policy.Policy.{Policy}
-use Rattle.law_order.specs.pg_base.declared.stamp.Stamp.{Stamp}
-use Rattle.law_order.specs.pg_patch.Ranges.{RangesValue, cut_to, written}
-use Rattle.law_order.specs.pg_entries.declared.entry.Entry.{Entry}
-use Rattle.law_order.specs.pg_intent.declared.intent.Intent.{Intent}
-use Rattle.law_order.specs.pg_intent.declared.intent.Intent.TheVariants as intent
-use Rattle.law_order.specs.pg_intent.declared.key.IntentKey.{IntentKey}
-use Rattle.law_order.specs.pg_intent.Intents.{ended, intent_at}
-use Rattle.law_order.specs.pg_msg.declared.message.Message.TheVariants as message
-use Rattle.law_order.specs.pg_msg.declared.update.MadeVersion.{MadeVersion}
-use Rattle.law_order.specs.pg_msg.declared.update.Update.TheVariants as update
-use Rattle.law_order.specs.pg_msg.declared.work.Work.{Work}
-use Rattle.law_order.specs.pg_msg.Work.{new_work}
-use Rattle.law_order.specs.pg_call.declared.call.Call.{Call}
-use Rattle.law_order.specs.pg_call.declared.call.Call.TheVariants as call
-use Rattle.law_order.specs.pg_register.declared.flag.Flag.{Flag}
-use Rattle.law_order.specs.pg_register.declared.place.Place.{Place}
-use Rattle.law_order.specs.pg_names.Names.{blank_own, with_flag, with_joined, with_place}
-use Rattle.law_order.proofs.pg_names.Lookups.{update_frame}
-use Rattle.law_order.specs.pg_replica.declared.replica.Replica.{Replica}
-use Rattle.law_order.specs.pg_replica.Replicas.{replica_in}
-use Rattle.law_order.specs.pg_store.declared.store.Store.{Store}
-use Rattle.law_order.specs.pg_store.declared.wishes.Wish.{Wish}
-use Rattle.law_order.specs.pg_store.Beginning.{patches_of, put_new, take_patch, take_patches, take_told, take_told_in, with_intents}
-use Rattle.law_order.specs.pg_store.Births.{draw_birth, with_birth, with_wish}
-use Rattle.law_order.specs.pg_store.Seen.{server_of}
-use Rattle.law_order.specs.pg_store.Store.{is_held, is_newer_entry, is_newer_flag, is_newer_place, put_entry, put_flag, put_place, replica_at, take_entry, take_flag, take_place, write}
-use Rattle.law_order.specs.pg_store.Together.{AreTogether, birth_at}
-use Rattle.law_order.proofs.pg_store.Pairs.{write_as_before}
-use Rattle.law_order.specs.pg_pieces.Done.{Done, idle}
-use Rattle.law_order.specs.pg_pieces.Making.{own_next}
-use Rattle.law_order.specs.pg_pieces.Posting.{post}
-use Rattle.law_order.specs.pg_cells.Ticks.{tick}
-use Rattle.law_order.specs.pg_intentions.Requests.{ask_all}
-use Rattle.law_order.proofs.pg_intentions.Steady.{begin_end_stays}
-use Rattle.law_order.specs.pg_lookup.declared.paths.Found.{Found}
-use Rattle.law_order.specs.pg_lookup.declared.paths.LookupError.{LookupError}
-use Rattle.law_order.specs.pg_lookup.declared.paths.LookupError.TheVariants as stop
-use Rattle.law_order.specs.pg_checks.declared.checks.NewName.{NewName}
-use Rattle.law_order.specs.pg_checks.Answer.{Answer, answered, deny}
-use Rattle.law_order.specs.pg_checks.Asking.{ask_by, fetch, fresh_wish, holder, standing}
-use Rattle.law_order.specs.pg_calls.Bodies.{change, change_file, when_fit}
-use Rattle.law_order.specs.pg_calls.Calls.{do_call}
-use Rattle.law_order.specs.pg_checks.Checks.{file_at, new_name}
-use Rattle.law_order.specs.pg_calls.Making.{drawn, first_ranges, make_place, make_version, version_of}
-use Rattle.law_order.specs.pg_calls.Naming.{begun, next_id, place_in, with_first_version, with_id, with_thing}
-use Rattle.law_order.proofs.pg_calls.Checked.{fit_found}
-use Rattle.law_order.proofs.pg_calls.New.{thing_new}
-use Rattle.law_order.proofs.pg_calls.Walked.{file_found, full_held}
-use Rattle.law_order.specs.pg_server.declared.input.Input.{Input}
-use Rattle.law_order.specs.pg_server.declared.input.Input.TheVariants as input
-use Rattle.law_order.specs.pg_server.Local.{Effect, done_of, effect, intended, receive, settled, ticked, without_sources, without_volatile}
-use Rattle.law_order.proofs.theory_flood_pieces.Choices.{chosen}
-use Rattle.law_order.proofs.theory_flood_pieces.Together.{replica_of_held}
-use Rattle.law_order.specs.pg_run.Journal.{versions_in}
-use Rattle.law_order.specs.pg_run.Run.{run}
-use Rattle.law_order.proofs.pg_run.Event.{Comes, FirstHas, effect_is, end_has, first_has}
-use Rattle.law_order.proofs.pg_run.Frame.{acts_is}
+use Rattle.pg_run.specs.pg_base.declared.id.FileId.{FileId}
+use Rattle.pg_run.specs.pg_base.declared.id.Kind.TheVariants.{File}
+use Rattle.pg_run.specs.pg_base.declared.policy.Policy.{Policy}
+use Rattle.pg_run.specs.pg_base.declared.stamp.Stamp.{Stamp}
+use Rattle.pg_run.specs.pg_patch.Ranges.{RangesValue, cut_to, written}
+use Rattle.pg_run.specs.pg_entries.declared.entry.Entry.{Entry}
+use Rattle.pg_run.specs.pg_intent.declared.intent.Intent.{Intent}
+use Rattle.pg_run.specs.pg_intent.declared.intent.Intent.TheVariants as intent
+use Rattle.pg_run.specs.pg_intent.declared.key.IntentKey.{IntentKey}
+use Rattle.pg_run.specs.pg_intent.Intents.{ended, intent_at}
+use Rattle.pg_run.specs.pg_msg.declared.message.Message.TheVariants as message
+use Rattle.pg_run.specs.pg_msg.declared.update.MadeVersion.{MadeVersion}
+use Rattle.pg_run.specs.pg_msg.declared.update.Update.TheVariants as update
+use Rattle.pg_run.specs.pg_msg.declared.work.Work.{Work}
+use Rattle.pg_run.specs.pg_msg.Work.{new_work}
+use Rattle.pg_run.specs.pg_call.declared.call.Call.{Call}
+use Rattle.pg_run.specs.pg_call.declared.call.Call.TheVariants as call
+use Rattle.pg_run.specs.pg_register.declared.flag.Flag.{Flag}
+use Rattle.pg_run.specs.pg_register.declared.place.Place.{Place}
+use Rattle.pg_run.specs.pg_names.Names.{blank_own, with_flag, with_joined, with_place}
+use Rattle.pg_run.proofs.pg_names.Lookups.{update_frame}
+use Rattle.pg_run.specs.pg_replica.declared.replica.Replica.{Replica}
+use Rattle.pg_run.specs.pg_replica.Replicas.{replica_in}
+use Rattle.pg_run.specs.pg_store.declared.store.Store.{Store}
+use Rattle.pg_run.specs.pg_store.declared.wishes.Wish.{Wish}
+use Rattle.pg_run.specs.pg_store.Beginning.{patches_of, put_new, take_patch, take_patches, take_told, take_told_in, with_intents}
+use Rattle.pg_run.specs.pg_store.Births.{draw_birth, with_birth, with_wish}
+use Rattle.pg_run.specs.pg_store.Seen.{server_of}
+use Rattle.pg_run.specs.pg_store.Store.{is_held, is_newer_entry, is_newer_flag, is_newer_place, put_entry, put_flag, put_place, replica_at, take_entry, take_flag, take_place, write}
+use Rattle.pg_run.specs.pg_store.Together.{AreTogether, birth_at}
+use Rattle.pg_run.proofs.pg_store.Pairs.{write_as_before}
+use Rattle.pg_run.specs.pg_pieces.Done.{Done, idle}
+use Rattle.pg_run.specs.pg_pieces.Making.{own_next}
+use Rattle.pg_run.specs.pg_pieces.Posting.{post}
+use Rattle.pg_run.specs.pg_cells.Ticks.{tick}
+use Rattle.pg_run.specs.pg_intentions.Requests.{ask_all}
+use Rattle.pg_run.proofs.pg_intentions.Steady.{begin_end_stays}
+use Rattle.pg_run.specs.pg_lookup.declared.paths.Found.{Found}
+use Rattle.pg_run.specs.pg_lookup.declared.paths.LookupError.{LookupError}
+use Rattle.pg_run.specs.pg_lookup.declared.paths.LookupError.TheVariants as stop
+use Rattle.pg_run.specs.pg_checks.declared.checks.NewName.{NewName}
+use Rattle.pg_run.specs.pg_checks.Answer.{Answer, answered, deny}
+use Rattle.pg_run.specs.pg_checks.Asking.{ask_by, fetch, fresh_wish, holder, standing}
+use Rattle.pg_run.specs.pg_calls.Bodies.{change, change_file, when_fit}
+use Rattle.pg_run.specs.pg_calls.Calls.{do_call}
+use Rattle.pg_run.specs.pg_checks.Checks.{file_at, new_name}
+use Rattle.pg_run.specs.pg_calls.Making.{drawn, first_ranges, make_place, make_version, version_of}
+use Rattle.pg_run.specs.pg_calls.Naming.{begun, next_id, place_in, with_first_version, with_id, with_thing}
+use Rattle.pg_run.proofs.pg_calls.Checked.{fit_found}
+use Rattle.pg_run.proofs.pg_calls.New.{thing_new}
+use Rattle.pg_run.proofs.pg_calls.Walked.{file_found, full_held}
+use Rattle.pg_run.specs.pg_server.declared.input.Input.{Input}
+use Rattle.pg_run.specs.pg_server.declared.input.Input.TheVariants as input
+use Rattle.pg_run.specs.pg_server.Local.{Effect, done_of, effect, intended, receive, settled, ticked, without_sources, without_volatile}
+use Rattle.pg_run.proofs.theory_flood_pieces.Choices.{chosen}
+use Rattle.pg_run.proofs.theory_flood_pieces.Together.{replica_of_held}
+use Rattle.pg_run.specs.Journal.{versions_in}
+use Rattle.pg_run.specs.Run.{run}
+use Rattle.pg_run.proofs.Event.{Comes, FirstHas, effect_is, end_has, first_has}
+use Rattle.pg_run.proofs.Frame.{acts_is}
 use Rattle.law_births.specs.Premises.{IsMadeHere, MakersHold, StoresAreWhole}
 use Rattle.law_births.proofs.Pieces.{settle_stays}
 use Rattle.law_births.proofs.HouseUnmade.{settle_none}

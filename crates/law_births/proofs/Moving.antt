@@ -1,23 +1,23 @@
 -- From one moment of a server to a later one: births are given out, and edges go up.
 use Rattle.std.proofs.Common.{ℕ, ◌≡◌, ◌⊎◌, Bool, true, false, cond, List, length, Option, None, Some, is_some, inl, inr, refl, sym, ap, subst, ◌∙◌}
 use Rattle.std.specs.Option.{option_map}
-use Rattle.law_order.specs.pg_base.declared.id.FileId.{FileId}
-use Rattle.law_order.specs.pg_base.declared.policy.Policy.{Policy}
-use Rattle.law_order.specs.pg_base.Id.{file_cmp, is_same_file}
-use Rattle.law_order.proofs.pg_base.Maps.{lookup-insert_entry}
-use Rattle.law_order.proofs.pg_base.Orders.{file_total, is_same_file-refl, is_same_file-true}
-use Rattle.law_order.specs.pg_edges.declared.key.Key.{Key}
-use Rattle.law_order.specs.pg_edges.Edges.{edge_to, linked, makes_edge, new_edge, put_edge}
-use Rattle.law_order.specs.pg_names.declared.attributes.Attributes.{Attributes}
-use Rattle.law_order.specs.pg_replica.declared.replica.Replica.{Replica}
-use Rattle.law_order.specs.pg_replica.Replica.{is_born_later, new_replica, with_link, with_unlink}
-use Rattle.law_order.specs.pg_replica.Replicas.{ByFile, or_nothing, put_replica, replica_in, replicas_linked, replicas_unlinked, takes_link}
-use Rattle.law_order.specs.pg_store.declared.store.Store.{Store}
-use Rattle.law_order.specs.pg_store.Beginning.{begin, patches_of, put_new}
-use Rattle.law_order.specs.pg_store.Links.{is_linked, is_new_link, keys, knows_later, link, put_link, unlink}
-use Rattle.law_order.specs.pg_store.Store.{is_held, replica_at, with_drawn}
-use Rattle.law_order.specs.pg_store.Together.{AreTogether, IsOver}
-use Rattle.law_order.proofs.pg_store.Pairs.{unlink_as_before}
+use Rattle.pg_run.specs.pg_base.declared.id.FileId.{FileId}
+use Rattle.pg_run.specs.pg_base.declared.policy.Policy.{Policy}
+use Rattle.pg_run.specs.pg_base.Id.{file_cmp, is_same_file}
+use Rattle.pg_run.proofs.pg_base.Maps.{lookup-insert_entry}
+use Rattle.pg_run.proofs.pg_base.Orders.{file_total, is_same_file-refl, is_same_file-true}
+use Rattle.pg_run.specs.pg_edges.declared.key.Key.{Key}
+use Rattle.pg_run.specs.pg_edges.Edges.{edge_to, linked, makes_edge, new_edge, put_edge}
+use Rattle.pg_run.specs.pg_names.declared.attributes.Attributes.{Attributes}
+use Rattle.pg_run.specs.pg_replica.declared.replica.Replica.{Replica}
+use Rattle.pg_run.specs.pg_replica.Replica.{is_born_later, new_replica, with_link, with_unlink}
+use Rattle.pg_run.specs.pg_replica.Replicas.{ByFile, or_nothing, put_replica, replica_in, replicas_linked, replicas_unlinked, takes_link}
+use Rattle.pg_run.specs.pg_store.declared.store.Store.{Store}
+use Rattle.pg_run.specs.pg_store.Beginning.{begin, patches_of, put_new}
+use Rattle.pg_run.specs.pg_store.Links.{is_linked, is_new_link, keys, knows_later, link, put_link, unlink}
+use Rattle.pg_run.specs.pg_store.Store.{is_held, replica_at, with_drawn}
+use Rattle.pg_run.specs.pg_store.Together.{AreTogether, IsOver}
+use Rattle.pg_run.proofs.pg_store.Pairs.{unlink_as_before}
 use Rattle.law_births.proofs.Ends.{AreUp, NoneFalls, UpBut, born_to, ends, link_lists, link_up, none_falls, unlink_falls_not, unlink_up, up_but, up_falls_not, up_itself}
 use Rattle.law_births.proofs.Has.{Goes, IsAlone, before_goes, goes_itself, goes_then, over_goes}
 use Rattle.law_births.proofs.Pieces.{Shape, Stays, patches_stay, shape, shape_at}

@@ -6,40 +6,40 @@ use Rattle.std.specs.List.{IsAmong}
 use Rattle.std.proofs.lemmas.Bool.{and_parts}
 use Rattle.std.proofs.lemmas.List.{append-nil}
 use Rattle.std.proofs.lemmas.List.Elements.{All-append, All-cons, All-head, All-nil, All-tail, All-weaker}
-use Rattle.law_order.specs.pg_base.declared.id.FileId.{FileId}
-use Rattle.law_order.specs.pg_base.Id.{file_cmp}
-use Rattle.law_order.proofs.pg_base.Maps.{lookup-insert_entry}
-use Rattle.law_order.proofs.pg_base.Orders.{file_total, is_same_file-refl}
-use Rattle.law_order.proofs.pg_content.Members.{all_among}
-use Rattle.law_order.specs.pg_edges.declared.edge.Edge.{Edge}
-use Rattle.law_order.specs.pg_edges.Edges.{put_edge}
-use Rattle.law_order.specs.pg_entries.declared.entry.Entry.{Entry}
-use Rattle.law_order.specs.pg_event.declared.entry.VoidCause.{VoidCause}
-use Rattle.law_order.specs.pg_event.declared.event.Event.{Event}
-use Rattle.law_order.proofs.theory_flood.Flood.{after_itself}
-use Rattle.law_order.specs.pg_intent.declared.intent.Intent.TheVariants as intent
-use Rattle.law_order.specs.pg_msg.declared.message.Sent.{Sent}
-use Rattle.law_order.specs.pg_msg.declared.update.MadeVersion.{MadeVersion}
-use Rattle.law_order.specs.pg_names.declared.attributes.Attributes.{Attributes}
-use Rattle.law_order.specs.pg_names.Names.{new_names}
-use Rattle.law_order.specs.pg_register.Place.{root}
-use Rattle.law_order.specs.pg_replica.declared.replica.Replica.{Replica}
-use Rattle.law_order.specs.pg_replica.Root.{clean_edge, clean_edges, first_root}
-use Rattle.law_order.specs.pg_server.declared.input.Input.{Input}
-use Rattle.law_order.specs.pg_server.declared.input.Input.TheVariants as input
-use Rattle.law_order.specs.pg_server.Local.{effect}
-use Rattle.law_order.specs.pg_store.declared.store.Store.{Store}
-use Rattle.law_order.specs.pg_store.Start.{first_flag, first_flags, root_own}
-use Rattle.law_order.specs.pg_store.Births.{birth_of}
-use Rattle.law_order.specs.pg_store.Store.{is_held, new_store}
-use Rattle.law_order.specs.pg_store.Together.{birth_at}
-use Rattle.law_order.specs.pg_run.Births.{BirthsAreKnown, BirthsWereGivenOut, WasGivenOut}
-use Rattle.law_order.specs.pg_run.Intending.{IntentionsAreInOrder}
-use Rattle.law_order.specs.pg_run.Journal.{Born, born_at, born_in, mail, versions_in}
-use Rattle.law_order.specs.pg_run.Laws.{store_after}
-use Rattle.law_order.specs.pg_run.Run.{Step, Taking, World, effect_step, idle_step, next, run, start, taking_in, world_after}
-use Rattle.law_order.proofs.pg_run.Frame.{Acts, HasCome, IsFramed, each_after, framed, next_is, run_more}
-use Rattle.law_order.proofs.pg_run.Lists.{contained_among}
+use Rattle.pg_run.specs.pg_base.declared.id.FileId.{FileId}
+use Rattle.pg_run.specs.pg_base.Id.{file_cmp}
+use Rattle.pg_run.proofs.pg_base.Maps.{lookup-insert_entry}
+use Rattle.pg_run.proofs.pg_base.Orders.{file_total, is_same_file-refl}
+use Rattle.pg_run.proofs.pg_content.Members.{all_among}
+use Rattle.pg_run.specs.pg_edges.declared.edge.Edge.{Edge}
+use Rattle.pg_run.specs.pg_edges.Edges.{put_edge}
+use Rattle.pg_run.specs.pg_entries.declared.entry.Entry.{Entry}
+use Rattle.pg_run.specs.pg_event.declared.entry.VoidCause.{VoidCause}
+use Rattle.pg_run.specs.pg_event.declared.event.Event.{Event}
+use Rattle.pg_run.proofs.theory_flood.Flood.{after_itself}
+use Rattle.pg_run.specs.pg_intent.declared.intent.Intent.TheVariants as intent
+use Rattle.pg_run.specs.pg_msg.declared.message.Sent.{Sent}
+use Rattle.pg_run.specs.pg_msg.declared.update.MadeVersion.{MadeVersion}
+use Rattle.pg_run.specs.pg_names.declared.attributes.Attributes.{Attributes}
+use Rattle.pg_run.specs.pg_names.Names.{new_names}
+use Rattle.pg_run.specs.pg_register.Place.{root}
+use Rattle.pg_run.specs.pg_replica.declared.replica.Replica.{Replica}
+use Rattle.pg_run.specs.pg_replica.Root.{clean_edge, clean_edges, first_root}
+use Rattle.pg_run.specs.pg_server.declared.input.Input.{Input}
+use Rattle.pg_run.specs.pg_server.declared.input.Input.TheVariants as input
+use Rattle.pg_run.specs.pg_server.Local.{effect}
+use Rattle.pg_run.specs.pg_store.declared.store.Store.{Store}
+use Rattle.pg_run.specs.pg_store.Start.{first_flag, first_flags, root_own}
+use Rattle.pg_run.specs.pg_store.Births.{birth_of}
+use Rattle.pg_run.specs.pg_store.Store.{is_held, new_store}
+use Rattle.pg_run.specs.pg_store.Together.{birth_at}
+use Rattle.pg_run.specs.Births.{BirthsAreKnown, BirthsWereGivenOut, WasGivenOut}
+use Rattle.pg_run.specs.Intending.{IntentionsAreInOrder}
+use Rattle.pg_run.specs.Journal.{Born, born_at, born_in, mail, versions_in}
+use Rattle.pg_run.specs.Laws.{store_after}
+use Rattle.pg_run.specs.Run.{Step, Taking, World, effect_step, idle_step, next, run, start, taking_in, world_after}
+use Rattle.pg_run.proofs.Frame.{Acts, HasCome, IsFramed, each_after, framed, next_is, run_more}
+use Rattle.pg_run.proofs.Lists.{contained_among}
 use Rattle.law_births.specs.Flags.{SaysIntent}
 use Rattle.law_births.specs.Premises.{IsMadeHere, MakersHold, StoresAreWhole}
 use Rattle.law_births.proofs.Ends.{ends}

@@ -3,27 +3,27 @@
 use Rattle.std.proofs.Common.{ℕ, ◌≡◌, zero, suc, Bool, true, false, cond, List, [], ◌∷◌, length, Option, None, Some, All, refl, sym, ap, subst, ◌∙◌}
 use Rattle.std.proofs.lemmas.List.Elements.{All-nil}
 use Rattle.std.proofs.lemmas.Option.{none-some, same_Some}
-use Rattle.law_order.specs.pg_base.declared.id.FileId.{FileId}
-use Rattle.law_order.specs.pg_base.Id.{file_cmp, is_same_file}
-use Rattle.law_order.proofs.pg_base.Maps.{lookup-insert_entry}
-use Rattle.law_order.proofs.pg_base.Orders.{file_total, is_same_file-true}
-use Rattle.law_order.specs.pg_register.declared.flag.Flag.{Flag}
-use Rattle.law_order.specs.pg_register.declared.place.Place.{Place}
-use Rattle.law_order.specs.pg_register.Place.{root, tilde_name}
-use Rattle.law_order.specs.pg_entries.declared.entry.Entry.{Entry}
-use Rattle.law_order.specs.pg_entries.Entry.{entry_of, joined_to}
-use Rattle.law_order.proofs.pg_entries.Found.{joined_is_found}
-use Rattle.law_order.specs.pg_names.declared.attributes.Attributes.{Attributes}
-use Rattle.law_order.specs.pg_names.Names.{InodeValue, NamesValue, begin, cell_at, changed, directories, entry_in, fill, filled, join_entry, join_flag, join_place, known, new_held, own_at, own_of, set_entry, set_own, update, with_entry, with_flag, with_joined, with_last, with_own, with_place}
-use Rattle.law_order.specs.pg_names.Same.{is_same_own}
-use Rattle.law_order.proofs.pg_names.Holding.{begun_known}
-use Rattle.law_order.proofs.pg_names.Lookups.{known_held, update_frame}
-use Rattle.law_order.specs.pg_house.Cycles.{break_first, first_moving, moved}
-use Rattle.law_order.specs.pg_house.House.{house, movable}
-use Rattle.law_order.specs.pg_house.Passing.{cell_for, gets, given, greatest, is_held_back, joined_with, own_taken, pass, pass_all, pass_own, spread, took}
-use Rattle.law_order.specs.pg_house.Placing.{drawn, flags_of, live_place, made_at, own_with, place_at, placed, repeated}
-use Rattle.law_order.specs.pg_house.Returning.{first_returning, return_first, returned}
-use Rattle.law_order.specs.pg_house.Work.{State}
+use Rattle.pg_run.specs.pg_base.declared.id.FileId.{FileId}
+use Rattle.pg_run.specs.pg_base.Id.{file_cmp, is_same_file}
+use Rattle.pg_run.proofs.pg_base.Maps.{lookup-insert_entry}
+use Rattle.pg_run.proofs.pg_base.Orders.{file_total, is_same_file-true}
+use Rattle.pg_run.specs.pg_register.declared.flag.Flag.{Flag}
+use Rattle.pg_run.specs.pg_register.declared.place.Place.{Place}
+use Rattle.pg_run.specs.pg_register.Place.{root, tilde_name}
+use Rattle.pg_run.specs.pg_entries.declared.entry.Entry.{Entry}
+use Rattle.pg_run.specs.pg_entries.Entry.{entry_of, joined_to}
+use Rattle.pg_run.proofs.pg_entries.Found.{joined_is_found}
+use Rattle.pg_run.specs.pg_names.declared.attributes.Attributes.{Attributes}
+use Rattle.pg_run.specs.pg_names.Names.{InodeValue, NamesValue, begin, cell_at, changed, directories, entry_in, fill, filled, join_entry, join_flag, join_place, known, new_held, own_at, own_of, set_entry, set_own, update, with_entry, with_flag, with_joined, with_last, with_own, with_place}
+use Rattle.pg_run.specs.pg_names.Same.{is_same_own}
+use Rattle.pg_run.proofs.pg_names.Holding.{begun_known}
+use Rattle.pg_run.proofs.pg_names.Lookups.{known_held, update_frame}
+use Rattle.pg_run.specs.pg_house.Cycles.{break_first, first_moving, moved}
+use Rattle.pg_run.specs.pg_house.House.{house, movable}
+use Rattle.pg_run.specs.pg_house.Passing.{cell_for, gets, given, greatest, is_held_back, joined_with, own_taken, pass, pass_all, pass_own, spread, took}
+use Rattle.pg_run.specs.pg_house.Placing.{drawn, flags_of, live_place, made_at, own_with, place_at, placed, repeated}
+use Rattle.pg_run.specs.pg_house.Returning.{first_returning, return_first, returned}
+use Rattle.pg_run.specs.pg_house.Work.{State}
 use Rattle.law_births.specs.Flags.{SaysEntry, SaysNames}
 use Rattle.law_births.proofs.Joined.{join_all, joins_all}
 

@@ -4,52 +4,52 @@ use Rattle.std.proofs.Common.{ℕ, ◌≡◌, ◌++◌, ◌⊎◌, Bool, true, f
 use Rattle.std.specs.List.{find}
 use Rattle.std.proofs.lemmas.Bool.{and_parts, false≢true, not-true}
 use Rattle.std.proofs.lemmas.Option.{none-some}
-use Rattle.law_order.specs.pg_base.declared.id.FileId.{FileId}
-use Rattle.law_order.specs.pg_base.declared.stamp.Stamp.{Stamp}
-use Rattle.law_order.specs.pg_content.Content.{Among}
-use Rattle.law_order.proofs.pg_content.Members.{all_among}
-use Rattle.law_order.specs.pg_edges.Edges.{is_listed}
-use Rattle.law_order.specs.pg_event.declared.event.Event.{Event}
-use Rattle.law_order.proofs.theory_flood.Flood.{after_itself}
-use Rattle.law_order.specs.pg_intent.declared.intent.Intent.{Intent}
-use Rattle.law_order.specs.pg_intent.declared.intent.Intent.TheVariants as intent
-use Rattle.law_order.specs.pg_intent.declared.key.IntentKey.TheVariants as intent_key
-use Rattle.law_order.specs.pg_intent.Intent.{key_of}
-use Rattle.law_order.specs.pg_intent.Intents.{HaveOwnKeys, has_key, intent_at}
-use Rattle.law_order.specs.pg_intent.Key.{is_same_key}
-use Rattle.law_order.proofs.pg_intent.Found.{ended_found}
-use Rattle.law_order.proofs.pg_intent.SameKey.{is_same_key-true}
-use Rattle.law_order.proofs.pg_intent.Stands.{all_found}
-use Rattle.law_order.specs.pg_msg.declared.message.Ends.{Ends}
-use Rattle.law_order.specs.pg_msg.declared.message.Message.{Message}
-use Rattle.law_order.specs.pg_msg.declared.message.Message.TheVariants as message
-use Rattle.law_order.specs.pg_msg.declared.message.Packet.{Packet}
-use Rattle.law_order.specs.pg_msg.declared.work.Work.{Work}
-use Rattle.law_order.specs.pg_msg.Work.{new_work}
-use Rattle.law_order.specs.pg_replica.declared.replica.Replica.{Replica}
-use Rattle.law_order.specs.pg_replica.Replicas.{or_nothing}
-use Rattle.law_order.specs.pg_pieces.declared.accepting.EdgeUse.TheVariants as manner
-use Rattle.law_order.specs.pg_pieces.Accepting.{is_accepted, is_current}
-use Rattle.law_order.specs.pg_pieces.Done.{Done, idle}
-use Rattle.law_order.specs.pg_pieces.Parting.{stays_for}
-use Rattle.law_order.specs.pg_graph.Leaving.{begin_byes, goes, goes_now, goes_or_stays, leave_ok, may_leave, without_leave}
-use Rattle.law_order.proofs.pg_graph.LeaveOk.{found_keyed}
-use Rattle.law_order.specs.pg_server.declared.input.Input.{Input}
-use Rattle.law_order.specs.pg_server.declared.input.Input.TheVariants as input
-use Rattle.law_order.specs.pg_server.Local.{effect, is_heard, receive, takes_effect}
-use Rattle.law_order.specs.pg_store.declared.store.Store.{Store}
-use Rattle.law_order.specs.pg_store.Beginning.{let_go}
-use Rattle.law_order.specs.pg_store.Births.{birth_of, has_birth}
-use Rattle.law_order.specs.pg_store.Store.{replica_at, replica_of}
-use Rattle.law_order.specs.pg_store.Together.{birth_at}
-use Rattle.law_order.specs.pg_run.Carried.{gone_by, gone_in}
-use Rattle.law_order.specs.pg_run.Going.{ByesBeginWhereOneGoes, ByesEndByAnswers, EachPeerIsTold, Hears, IsRemovedBehind, Owes}
+use Rattle.pg_run.specs.pg_base.declared.id.FileId.{FileId}
+use Rattle.pg_run.specs.pg_base.declared.stamp.Stamp.{Stamp}
+use Rattle.pg_run.specs.pg_content.Content.{Among}
+use Rattle.pg_run.proofs.pg_content.Members.{all_among}
+use Rattle.pg_run.specs.pg_edges.Edges.{is_listed}
+use Rattle.pg_run.specs.pg_event.declared.event.Event.{Event}
+use Rattle.pg_run.proofs.theory_flood.Flood.{after_itself}
+use Rattle.pg_run.specs.pg_intent.declared.intent.Intent.{Intent}
+use Rattle.pg_run.specs.pg_intent.declared.intent.Intent.TheVariants as intent
+use Rattle.pg_run.specs.pg_intent.declared.key.IntentKey.TheVariants as intent_key
+use Rattle.pg_run.specs.pg_intent.Intent.{key_of}
+use Rattle.pg_run.specs.pg_intent.Intents.{HaveOwnKeys, has_key, intent_at}
+use Rattle.pg_run.specs.pg_intent.Key.{is_same_key}
+use Rattle.pg_run.proofs.pg_intent.Found.{ended_found}
+use Rattle.pg_run.proofs.pg_intent.SameKey.{is_same_key-true}
+use Rattle.pg_run.proofs.pg_intent.Stands.{all_found}
+use Rattle.pg_run.specs.pg_msg.declared.message.Ends.{Ends}
+use Rattle.pg_run.specs.pg_msg.declared.message.Message.{Message}
+use Rattle.pg_run.specs.pg_msg.declared.message.Message.TheVariants as message
+use Rattle.pg_run.specs.pg_msg.declared.message.Packet.{Packet}
+use Rattle.pg_run.specs.pg_msg.declared.work.Work.{Work}
+use Rattle.pg_run.specs.pg_msg.Work.{new_work}
+use Rattle.pg_run.specs.pg_replica.declared.replica.Replica.{Replica}
+use Rattle.pg_run.specs.pg_replica.Replicas.{or_nothing}
+use Rattle.pg_run.specs.pg_pieces.declared.accepting.EdgeUse.TheVariants as manner
+use Rattle.pg_run.specs.pg_pieces.Accepting.{is_accepted, is_current}
+use Rattle.pg_run.specs.pg_pieces.Done.{Done, idle}
+use Rattle.pg_run.specs.pg_pieces.Parting.{stays_for}
+use Rattle.pg_run.specs.pg_graph.Leaving.{begin_byes, goes, goes_now, goes_or_stays, leave_ok, may_leave, without_leave}
+use Rattle.pg_run.proofs.pg_graph.LeaveOk.{found_keyed}
+use Rattle.pg_run.specs.pg_server.declared.input.Input.{Input}
+use Rattle.pg_run.specs.pg_server.declared.input.Input.TheVariants as input
+use Rattle.pg_run.specs.pg_server.Local.{effect, is_heard, receive, takes_effect}
+use Rattle.pg_run.specs.pg_store.declared.store.Store.{Store}
+use Rattle.pg_run.specs.pg_store.Beginning.{let_go}
+use Rattle.pg_run.specs.pg_store.Births.{birth_of, has_birth}
+use Rattle.pg_run.specs.pg_store.Store.{replica_at, replica_of}
+use Rattle.pg_run.specs.pg_store.Together.{birth_at}
+use Rattle.pg_run.specs.Carried.{gone_by, gone_in}
+use Rattle.pg_run.specs.Going.{ByesBeginWhereOneGoes, ByesEndByAnswers, EachPeerIsTold, Hears, IsRemovedBehind, Owes}
 use Rattle.law_births.proofs.Entering.{removed_behind}
-use Rattle.law_order.specs.pg_run.Intending.{IntentionsAreInOrder}
-use Rattle.law_order.specs.pg_run.Laws.{TakesIn, store_after}
-use Rattle.law_order.specs.pg_run.Run.{Step, World, run, start}
-use Rattle.law_order.proofs.pg_run.Frame.{acts_is, next_is, run_more}
-use Rattle.law_order.proofs.pg_run.Lists.{among_contained, contained_among}
+use Rattle.pg_run.specs.Intending.{IntentionsAreInOrder}
+use Rattle.pg_run.specs.Laws.{TakesIn, store_after}
+use Rattle.pg_run.specs.Run.{Step, World, run, start}
+use Rattle.pg_run.proofs.Frame.{acts_is, next_is, run_more}
+use Rattle.pg_run.proofs.Lists.{among_contained, contained_among}
 use Rattle.law_births.proofs.ByeEvents.{Changes, arrival_bye, byes_begin, byes_leave, each_told, effect_bye, left_by, on, without_same}
 use Rattle.law_births.proofs.ByeKeys.{ByeKey, bye_in}
 use Rattle.law_births.proofs.Here.{birth_is, of_birth}

@@ -1,35 +1,35 @@
 -- What is said of births and flags is said where a replica goes, and its peers are to hear of it.
 use Rattle.std.proofs.Common.{ℕ, ◌≡◌, true, not, is_some, refl, sym, subst}
 use Rattle.std.proofs.lemmas.Bool.{and_parts}
-use Rattle.law_order.specs.pg_base.declared.id.FileId.{FileId}
-use Rattle.law_order.specs.pg_base.declared.stamp.Stamp.{Stamp}
-use Rattle.law_order.specs.pg_edges.declared.edge.Edge.{Edge}
-use Rattle.law_order.specs.pg_intent.declared.intent.Intent.{Intent}
-use Rattle.law_order.specs.pg_intent.declared.key.IntentKey.{IntentKey}
-use Rattle.law_order.specs.pg_intent.declared.key.IntentKey.TheVariants as intent_key
-use Rattle.law_order.specs.pg_intent.Intent.{key_of}
-use Rattle.law_order.specs.pg_intent.Intents.{ended, stands}
-use Rattle.law_order.specs.pg_msg.declared.message.Ends.{Ends}
-use Rattle.law_order.specs.pg_msg.declared.work.Work.{Work}
-use Rattle.law_order.specs.pg_register.declared.flag.Flag.{Flag}
-use Rattle.law_order.specs.pg_store.declared.store.Store.{Store}
-use Rattle.law_order.specs.pg_store.Beginning.{let_go, with_intents}
-use Rattle.law_order.specs.pg_store.Births.{birth_of, has_birth}
-use Rattle.law_order.specs.pg_store.Store.{replica_at, replica_of}
-use Rattle.law_order.specs.pg_pieces.declared.accepting.EdgeUse.TheVariants as manner
-use Rattle.law_order.specs.pg_pieces.Accepting.{is_accepted, is_current}
-use Rattle.law_order.specs.pg_pieces.Done.{Done, idle}
-use Rattle.law_order.specs.pg_pieces.Intending.{begin_intent}
-use Rattle.law_order.specs.pg_pieces.Parting.{stays_for}
-use Rattle.law_order.specs.pg_graph.Leaving.{bye_to, goes, goes_now, goes_or_stays, leave_ok, may_leave, without_leave}
-use Rattle.law_order.proofs.pg_graph.LeaveOk.{byes_by}
-use Rattle.law_order.proofs.theory_flood_pieces.Choices.{decided}
+use Rattle.pg_run.specs.pg_base.declared.id.FileId.{FileId}
+use Rattle.pg_run.specs.pg_base.declared.stamp.Stamp.{Stamp}
+use Rattle.pg_run.specs.pg_edges.declared.edge.Edge.{Edge}
+use Rattle.pg_run.specs.pg_intent.declared.intent.Intent.{Intent}
+use Rattle.pg_run.specs.pg_intent.declared.key.IntentKey.{IntentKey}
+use Rattle.pg_run.specs.pg_intent.declared.key.IntentKey.TheVariants as intent_key
+use Rattle.pg_run.specs.pg_intent.Intent.{key_of}
+use Rattle.pg_run.specs.pg_intent.Intents.{ended, stands}
+use Rattle.pg_run.specs.pg_msg.declared.message.Ends.{Ends}
+use Rattle.pg_run.specs.pg_msg.declared.work.Work.{Work}
+use Rattle.pg_run.specs.pg_register.declared.flag.Flag.{Flag}
+use Rattle.pg_run.specs.pg_store.declared.store.Store.{Store}
+use Rattle.pg_run.specs.pg_store.Beginning.{let_go, with_intents}
+use Rattle.pg_run.specs.pg_store.Births.{birth_of, has_birth}
+use Rattle.pg_run.specs.pg_store.Store.{replica_at, replica_of}
+use Rattle.pg_run.specs.pg_pieces.declared.accepting.EdgeUse.TheVariants as manner
+use Rattle.pg_run.specs.pg_pieces.Accepting.{is_accepted, is_current}
+use Rattle.pg_run.specs.pg_pieces.Done.{Done, idle}
+use Rattle.pg_run.specs.pg_pieces.Intending.{begin_intent}
+use Rattle.pg_run.specs.pg_pieces.Parting.{stays_for}
+use Rattle.pg_run.specs.pg_graph.Leaving.{bye_to, goes, goes_now, goes_or_stays, leave_ok, may_leave, without_leave}
+use Rattle.pg_run.proofs.pg_graph.LeaveOk.{byes_by}
+use Rattle.pg_run.proofs.theory_flood_pieces.Choices.{decided}
 use Rattle.law_births.specs.Flags.{SaysIntent}
 use Rattle.law_births.proofs.EndsSay.{ends_let_go}
 use Rattle.law_births.proofs.Here.{birth_is, of_birth}
 use Rattle.law_births.proofs.Leaves.{now_goes}
 use Rattle.law_births.proofs.Mails.{Owed}
-use Rattle.law_order.proofs.pg_run.Still.{begun_still, same_mail}
+use Rattle.pg_run.proofs.Still.{begun_still, same_mail}
 use Rattle.law_births.proofs.Saying.{IsSaid, said_on}
 use Rattle.law_births.proofs.StoreSays.{intends_says, say_ended, say_let_go}
 use Rattle.law_births.proofs.Walking.{edges_named}

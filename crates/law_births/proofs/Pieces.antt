@@ -4,46 +4,46 @@ use Rattle.std.specs.Option.{option_map}
 use Rattle.std.specs.List.{list_any}
 use Rattle.std.specs.Map.{keys_of, lookup}
 use Rattle.std.specs.BTreeMap.{is_at}
-use Rattle.law_order.specs.pg_base.declared.id.FileId.{FileId}
-use Rattle.law_order.specs.pg_base.declared.stamp.Stamp.{Stamp}
-use Rattle.law_order.specs.pg_base.Id.{file_cmp}
-use Rattle.law_order.specs.pg_base.Version.{VersionValue}
-use Rattle.law_order.specs.pg_patch.Ranges.{RangesValue}
-use Rattle.law_order.specs.pg_edges.declared.key.Key.{Key}
-use Rattle.law_order.specs.pg_edges.declared.key.Key.TheVariants as key
-use Rattle.law_order.specs.pg_entries.declared.entry.Entry.{Entry}
-use Rattle.law_order.specs.pg_register.declared.flag.Flag.{Flag}
-use Rattle.law_order.specs.pg_register.declared.place.Place.{Place}
-use Rattle.law_order.specs.pg_announced.Announced.{NotesValue}
-use Rattle.law_order.specs.pg_delta.declared.delta.KeptDelta.{KeptDelta}
-use Rattle.law_order.specs.pg_intent.declared.intent.Intent.{Intent}
-use Rattle.law_order.specs.pg_intent.declared.intent.Intent.TheVariants as intent
-use Rattle.law_order.specs.pg_intent.declared.key.IntentKey.{IntentKey}
-use Rattle.law_order.specs.pg_intent.Intents.{ended, intent_at}
-use Rattle.law_order.specs.pg_msg.declared.message.Ends.{Ends}
-use Rattle.law_order.specs.pg_msg.declared.work.Touched.{Touched}
-use Rattle.law_order.specs.pg_msg.declared.work.Work.{Work}
-use Rattle.law_order.specs.pg_names.Names.{NamesValue, fill, filled, is_held, join_entry, join_flag, join_place, raise}
-use Rattle.law_order.specs.pg_house.House.{house}
-use Rattle.law_order.specs.pg_house.Work.{state_of}
-use Rattle.law_order.proofs.pg_house.Keys.{rules_keys}
-use Rattle.law_order.specs.pg_replica.declared.link.Link.{Link}
-use Rattle.law_order.specs.pg_replica.declared.replica.Replica.{Replica}
-use Rattle.law_order.specs.pg_replica.Replica.{covered_heads, key_of, keys, own_actor, with_head, with_kept, with_touch, with_write, without_keys}
-use Rattle.law_order.specs.pg_replica.Replicas.{ByFile, replicas_keeping, replicas_taking, replicas_touched, replicas_writing}
-use Rattle.law_order.specs.pg_store.declared.store.Store.{Store}
-use Rattle.law_order.specs.pg_store.Beginning.{take_patch, take_patches, take_told, take_told_in, with_intents}
-use Rattle.law_order.specs.pg_store.Store.{acknowledge, is_new_version, is_newer_entry, is_newer_flag, is_newer_place, keep_delta, put_entry, put_flag, put_place, put_version, replica_at, take_entry, take_flag, take_place, take_version, touch, with_names, write}
-use Rattle.law_order.specs.pg_store.Together.{HoldsAsBefore}
-use Rattle.law_order.proofs.pg_store.Pairs.{acked_seen, acknowledge_as_before, as_before, ended_as_before, entry_as_before, flag_as_before, made_seen, names_as_before, place_as_before, replicas_only, then_as_before, touch_as_before, update_held, version_as_before, write_as_before}
-use Rattle.law_order.specs.pg_pieces.Done.{Done}
-use Rattle.law_order.specs.pg_pieces.Making.{own_next}
-use Rattle.law_order.specs.pg_cells.Settling.{rules, settle, touch_all}
-use Rattle.law_order.proofs.pg_cells.Settled.{settle_keeps}
-use Rattle.law_order.specs.pg_calls.Naming.{with_id}
-use Rattle.law_order.specs.pg_server.pg_transfer.Asking.{with_notes}
+use Rattle.pg_run.specs.pg_base.declared.id.FileId.{FileId}
+use Rattle.pg_run.specs.pg_base.declared.stamp.Stamp.{Stamp}
+use Rattle.pg_run.specs.pg_base.Id.{file_cmp}
+use Rattle.pg_run.specs.pg_base.Version.{VersionValue}
+use Rattle.pg_run.specs.pg_patch.Ranges.{RangesValue}
+use Rattle.pg_run.specs.pg_edges.declared.key.Key.{Key}
+use Rattle.pg_run.specs.pg_edges.declared.key.Key.TheVariants as key
+use Rattle.pg_run.specs.pg_entries.declared.entry.Entry.{Entry}
+use Rattle.pg_run.specs.pg_register.declared.flag.Flag.{Flag}
+use Rattle.pg_run.specs.pg_register.declared.place.Place.{Place}
+use Rattle.pg_run.specs.pg_announced.Announced.{NotesValue}
+use Rattle.pg_run.specs.pg_delta.declared.delta.KeptDelta.{KeptDelta}
+use Rattle.pg_run.specs.pg_intent.declared.intent.Intent.{Intent}
+use Rattle.pg_run.specs.pg_intent.declared.intent.Intent.TheVariants as intent
+use Rattle.pg_run.specs.pg_intent.declared.key.IntentKey.{IntentKey}
+use Rattle.pg_run.specs.pg_intent.Intents.{ended, intent_at}
+use Rattle.pg_run.specs.pg_msg.declared.message.Ends.{Ends}
+use Rattle.pg_run.specs.pg_msg.declared.work.Touched.{Touched}
+use Rattle.pg_run.specs.pg_msg.declared.work.Work.{Work}
+use Rattle.pg_run.specs.pg_names.Names.{NamesValue, fill, filled, is_held, join_entry, join_flag, join_place, raise}
+use Rattle.pg_run.specs.pg_house.House.{house}
+use Rattle.pg_run.specs.pg_house.Work.{state_of}
+use Rattle.pg_run.proofs.pg_house.Keys.{rules_keys}
+use Rattle.pg_run.specs.pg_replica.declared.link.Link.{Link}
+use Rattle.pg_run.specs.pg_replica.declared.replica.Replica.{Replica}
+use Rattle.pg_run.specs.pg_replica.Replica.{covered_heads, key_of, keys, own_actor, with_head, with_kept, with_touch, with_write, without_keys}
+use Rattle.pg_run.specs.pg_replica.Replicas.{ByFile, replicas_keeping, replicas_taking, replicas_touched, replicas_writing}
+use Rattle.pg_run.specs.pg_store.declared.store.Store.{Store}
+use Rattle.pg_run.specs.pg_store.Beginning.{take_patch, take_patches, take_told, take_told_in, with_intents}
+use Rattle.pg_run.specs.pg_store.Store.{acknowledge, is_new_version, is_newer_entry, is_newer_flag, is_newer_place, keep_delta, put_entry, put_flag, put_place, put_version, replica_at, take_entry, take_flag, take_place, take_version, touch, with_names, write}
+use Rattle.pg_run.specs.pg_store.Together.{HoldsAsBefore}
+use Rattle.pg_run.proofs.pg_store.Pairs.{acked_seen, acknowledge_as_before, as_before, ended_as_before, entry_as_before, flag_as_before, made_seen, names_as_before, place_as_before, replicas_only, then_as_before, touch_as_before, update_held, version_as_before, write_as_before}
+use Rattle.pg_run.specs.pg_pieces.Done.{Done}
+use Rattle.pg_run.specs.pg_pieces.Making.{own_next}
+use Rattle.pg_run.specs.pg_cells.Settling.{rules, settle, touch_all}
+use Rattle.pg_run.proofs.pg_cells.Settled.{settle_keeps}
+use Rattle.pg_run.specs.pg_calls.Naming.{with_id}
+use Rattle.pg_run.specs.pg_server.pg_transfer.Asking.{with_notes}
 use Rattle.law_births.proofs.Ends.{ends, ends-acked, ends-touched, ends-without}
-use Rattle.law_order.proofs.pg_run.Transfers.{KeepsTransfers}
+use Rattle.pg_run.proofs.Transfers.{KeepsTransfers}
 
 -- the birth of a replica, and the ends of its edges
 abbrev pub Shape : Type 0

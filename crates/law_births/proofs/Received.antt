@@ -3,40 +3,40 @@ use Rattle.std.proofs.Common.{ℕ, ◌≡◌, ◌&&◌, Bool, true, false, All, 
 use Rattle.std.proofs.lemmas.Bool.{and_parts, false≢true}
 use Rattle.std.proofs.lemmas.List.Elements.{All-contains, All-filter}
 use Rattle.std.proofs.lemmas.Option.{none-some}
-use Rattle.law_order.specs.pg_base.declared.id.FileId.{FileId}
-use Rattle.law_order.specs.pg_base.declared.stamp.Stamp.{Stamp}
-use Rattle.law_order.specs.pg_edges.declared.edge.Edge.{Edge}
-use Rattle.law_order.specs.pg_intent.declared.key.IntentKey.TheVariants as intent_key
-use Rattle.law_order.specs.pg_intent.Intents.{ended}
-use Rattle.law_order.specs.pg_msg.declared.message.Ends.{Ends}
-use Rattle.law_order.specs.pg_msg.declared.message.Granted.{Granted}
-use Rattle.law_order.specs.pg_msg.declared.message.Message.{Message}
-use Rattle.law_order.specs.pg_msg.declared.message.Message.TheVariants as message
-use Rattle.law_order.specs.pg_msg.declared.summary.Greeting.TheVariants as greeting
-use Rattle.law_order.specs.pg_msg.declared.work.Work.{Work}
-use Rattle.law_order.specs.pg_msg.Ends.{back}
-use Rattle.law_order.specs.pg_names.Names.{fill as fill_names}
-use Rattle.law_order.specs.pg_register.declared.flag.Flag.{Flag}
-use Rattle.law_order.specs.pg_store.declared.store.Store.{Store}
-use Rattle.law_order.specs.pg_store.Beginning.{with_intents}
-use Rattle.law_order.specs.pg_store.Births.{birth_of, has_birth, is_pending, with_wishes}
-use Rattle.law_order.specs.pg_store.Links.{unlink}
-use Rattle.law_order.specs.pg_store.Store.{acknowledge, is_full, is_held, keep_delta, replica_at, replica_of, with_names}
-use Rattle.law_order.specs.pg_store.Together.{AreTogether, birth_at}
-use Rattle.law_order.specs.pg_store.Wishes.{aim_wish}
-use Rattle.law_order.proofs.pg_store.Pairs.{unlink_as_before}
-use Rattle.law_order.proofs.pg_calls.Walked.{full_held}
-use Rattle.law_order.specs.pg_pieces.Accepting.{ends_to, is_current}
-use Rattle.law_order.specs.pg_pieces.Done.{Done, idle, link_of}
-use Rattle.law_order.specs.pg_pieces.Making.{own_next, raise_flag}
-use Rattle.law_order.specs.pg_pieces.Posting.{reply}
-use Rattle.law_order.specs.pg_repair.Granting.{begun_by, granted_own}
-use Rattle.law_order.specs.pg_graph.Leaving.{goes_now}
-use Rattle.law_order.specs.pg_graph.Walks.{edges_of, is_onward, onward}
-use Rattle.law_order.specs.pg_server.Local.{receive}
-use Rattle.law_order.specs.pg_server.pg_transfer.Asking.{with_notes}
-use Rattle.law_order.specs.pg_run.Births.{AllNamed, ends_named}
-use Rattle.law_order.proofs.pg_run.Still.{same_mail}
+use Rattle.pg_run.specs.pg_base.declared.id.FileId.{FileId}
+use Rattle.pg_run.specs.pg_base.declared.stamp.Stamp.{Stamp}
+use Rattle.pg_run.specs.pg_edges.declared.edge.Edge.{Edge}
+use Rattle.pg_run.specs.pg_intent.declared.key.IntentKey.TheVariants as intent_key
+use Rattle.pg_run.specs.pg_intent.Intents.{ended}
+use Rattle.pg_run.specs.pg_msg.declared.message.Ends.{Ends}
+use Rattle.pg_run.specs.pg_msg.declared.message.Granted.{Granted}
+use Rattle.pg_run.specs.pg_msg.declared.message.Message.{Message}
+use Rattle.pg_run.specs.pg_msg.declared.message.Message.TheVariants as message
+use Rattle.pg_run.specs.pg_msg.declared.summary.Greeting.TheVariants as greeting
+use Rattle.pg_run.specs.pg_msg.declared.work.Work.{Work}
+use Rattle.pg_run.specs.pg_msg.Ends.{back}
+use Rattle.pg_run.specs.pg_names.Names.{fill as fill_names}
+use Rattle.pg_run.specs.pg_register.declared.flag.Flag.{Flag}
+use Rattle.pg_run.specs.pg_store.declared.store.Store.{Store}
+use Rattle.pg_run.specs.pg_store.Beginning.{with_intents}
+use Rattle.pg_run.specs.pg_store.Births.{birth_of, has_birth, is_pending, with_wishes}
+use Rattle.pg_run.specs.pg_store.Links.{unlink}
+use Rattle.pg_run.specs.pg_store.Store.{acknowledge, is_full, is_held, keep_delta, replica_at, replica_of, with_names}
+use Rattle.pg_run.specs.pg_store.Together.{AreTogether, birth_at}
+use Rattle.pg_run.specs.pg_store.Wishes.{aim_wish}
+use Rattle.pg_run.proofs.pg_store.Pairs.{unlink_as_before}
+use Rattle.pg_run.proofs.pg_calls.Walked.{full_held}
+use Rattle.pg_run.specs.pg_pieces.Accepting.{ends_to, is_current}
+use Rattle.pg_run.specs.pg_pieces.Done.{Done, idle, link_of}
+use Rattle.pg_run.specs.pg_pieces.Making.{own_next, raise_flag}
+use Rattle.pg_run.specs.pg_pieces.Posting.{reply}
+use Rattle.pg_run.specs.pg_repair.Granting.{begun_by, granted_own}
+use Rattle.pg_run.specs.pg_graph.Leaving.{goes_now}
+use Rattle.pg_run.specs.pg_graph.Walks.{edges_of, is_onward, onward}
+use Rattle.pg_run.specs.pg_server.Local.{receive}
+use Rattle.pg_run.specs.pg_server.pg_transfer.Asking.{with_notes}
+use Rattle.pg_run.specs.Births.{AllNamed, ends_named}
+use Rattle.pg_run.proofs.Still.{same_mail}
 use Rattle.law_order.proofs.law_frame.Keeps.{Answers, Keeps, along, raising}
 use Rattle.law_order.proofs.law_frame.Received.{receive_keeps}
 use Rattle.law_births.specs.Flags.{SaysEntry, SaysMessage, SaysStore}

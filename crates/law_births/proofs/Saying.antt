@@ -1,30 +1,30 @@
 -- What is said of births and flags is said of what a server holds and sends in an event.
 use Rattle.std.proofs.Common.{inl, inr, ℕ, ◌≡◌, false, Some, All, refl, sym, subst, ◌∙◌}
 use Rattle.std.proofs.lemmas.List.Elements.{All-push}
-use Rattle.law_order.specs.pg_base.declared.id.FileId.{FileId}
-use Rattle.law_order.specs.pg_base.Id.{is_same_file}
-use Rattle.law_order.proofs.pg_base.Orders.{is_same_file-true}
-use Rattle.law_order.specs.pg_msg.declared.message.Granted.{Granted}
-use Rattle.law_order.specs.pg_replica.Replica.{new_replica}
-use Rattle.law_order.specs.pg_store.Beginning.{patches_of, put_new}
-use Rattle.law_order.specs.pg_store.Store.{replica_at}
-use Rattle.law_order.proofs.pg_store.Given.{born_behind, born_by}
-use Rattle.law_order.proofs.pg_store.Pairs.{patches_as_before}
-use Rattle.law_order.specs.pg_repair.Granting.{begun_by, granted_own}
-use Rattle.law_order.specs.pg_entries.declared.entry.Entry.{Entry}
-use Rattle.law_order.specs.pg_msg.declared.message.Ends.{Ends}
-use Rattle.law_order.specs.pg_msg.declared.message.Message.{Message}
-use Rattle.law_order.specs.pg_msg.declared.work.Work.{Work}
-use Rattle.law_order.specs.pg_msg.Work.{with_tail}
-use Rattle.law_order.specs.pg_register.declared.flag.Flag.{Flag}
-use Rattle.law_order.specs.pg_register.declared.place.Place.{Place}
-use Rattle.law_order.specs.pg_store.declared.store.Store.{Store}
-use Rattle.law_order.specs.pg_store.Births.{birth_of, has_birth, is_pending}
-use Rattle.law_order.specs.pg_store.Together.{birth_at}
-use Rattle.law_order.specs.pg_pieces.Done.{Done, idle}
-use Rattle.law_order.specs.pg_pieces.Posting.{post, reply, sent_to}
-use Rattle.law_order.specs.pg_pieces.Taking.{take_entry_noted, take_place_noted}
-use Rattle.law_order.specs.pg_run.Births.{AllNamed}
+use Rattle.pg_run.specs.pg_base.declared.id.FileId.{FileId}
+use Rattle.pg_run.specs.pg_base.Id.{is_same_file}
+use Rattle.pg_run.proofs.pg_base.Orders.{is_same_file-true}
+use Rattle.pg_run.specs.pg_msg.declared.message.Granted.{Granted}
+use Rattle.pg_run.specs.pg_replica.Replica.{new_replica}
+use Rattle.pg_run.specs.pg_store.Beginning.{patches_of, put_new}
+use Rattle.pg_run.specs.pg_store.Store.{replica_at}
+use Rattle.pg_run.proofs.pg_store.Given.{born_behind, born_by}
+use Rattle.pg_run.proofs.pg_store.Pairs.{patches_as_before}
+use Rattle.pg_run.specs.pg_repair.Granting.{begun_by, granted_own}
+use Rattle.pg_run.specs.pg_entries.declared.entry.Entry.{Entry}
+use Rattle.pg_run.specs.pg_msg.declared.message.Ends.{Ends}
+use Rattle.pg_run.specs.pg_msg.declared.message.Message.{Message}
+use Rattle.pg_run.specs.pg_msg.declared.work.Work.{Work}
+use Rattle.pg_run.specs.pg_msg.Work.{with_tail}
+use Rattle.pg_run.specs.pg_register.declared.flag.Flag.{Flag}
+use Rattle.pg_run.specs.pg_register.declared.place.Place.{Place}
+use Rattle.pg_run.specs.pg_store.declared.store.Store.{Store}
+use Rattle.pg_run.specs.pg_store.Births.{birth_of, has_birth, is_pending}
+use Rattle.pg_run.specs.pg_store.Together.{birth_at}
+use Rattle.pg_run.specs.pg_pieces.Done.{Done, idle}
+use Rattle.pg_run.specs.pg_pieces.Posting.{post, reply, sent_to}
+use Rattle.pg_run.specs.pg_pieces.Taking.{take_entry_noted, take_place_noted}
+use Rattle.pg_run.specs.Births.{AllNamed}
 use Rattle.law_births.specs.Flags.{SaysEntry, SaysStore}
 use Rattle.law_births.proofs.Ends.{ends}
 use Rattle.law_births.proofs.EndsSay.{SaysEnds, ends_stay}
@@ -32,7 +32,7 @@ use Rattle.law_births.proofs.Here.{birth_is}
 use Rattle.law_births.proofs.Pieces.{entry_stays, place_stays}
 use Rattle.law_births.proofs.StoreSays.{say_entry, say_place}
 use Rattle.law_births.proofs.Mails.{Owed, SaysAll, SaysSent}
-use Rattle.law_order.proofs.pg_run.Still.{SameMail, entry_still, place_still}
+use Rattle.pg_run.proofs.Still.{SameMail, entry_still, place_still}
 
 -- in the midst of an event at server s, in which a message came from this server
 pub record IsSaid (P : FileId → ℕ → ℕ → Type 0) (Q : FileId → Flag → Type 0) (G : FileId → ℕ → Type 0) (s from : ℕ) (d : Done) : Type 0 where

@@ -7,50 +7,50 @@ use Rattle.std.specs.List.Sorted.{IsStrictlySortedBy}
 use Rattle.std.specs.Map.{keys_of}
 use Rattle.std.proofs.lemmas.Bool.{and_parts, eqb-true, false≢true}
 use Rattle.std.proofs.lemmas.List.Elements.{All-head, All-tail, All-weaker}
-use Rattle.law_order.specs.pg_base.declared.id.FileId.{FileId}
-use Rattle.law_order.specs.pg_base.Id.{file_cmp}
-use Rattle.law_order.specs.pg_base.Version.{VersionValue}
-use Rattle.law_order.specs.pg_edges.declared.edge.Edge.{Edge}
-use Rattle.law_order.specs.pg_edges.Edges.{edge_to, is_listed, keys_if_born}
-use Rattle.law_order.specs.pg_edges.declared.key.Key.{Key}
-use Rattle.law_order.specs.pg_edges.declared.key.Key.TheVariants as key
-use Rattle.law_order.specs.pg_entries.declared.cell.Cell.{Cell}
-use Rattle.law_order.specs.pg_entries.declared.cell.Cell.TheVariants as cells
-use Rattle.law_order.specs.pg_entries.declared.entry.Entry.{Entry}
-use Rattle.law_order.specs.pg_intent.declared.intent.Intent.{Intent}
-use Rattle.law_order.specs.pg_intent.declared.intent.Intent.TheVariants as intent
-use Rattle.law_order.specs.pg_intent.Intent.{key_of}
-use Rattle.law_order.specs.pg_intent.Intents.{HaveOwnKeys, intent_at, stands}
-use Rattle.law_order.specs.pg_intent.declared.key.IntentKey.{IntentKey}
-use Rattle.law_order.specs.pg_intent.declared.key.IntentKey.TheVariants as intent_key
-use Rattle.law_order.proofs.pg_intent.Found.{stands_is}
-use Rattle.law_order.proofs.pg_intent.Stands.{all_found}
-use Rattle.law_order.specs.pg_msg.declared.message.Ends.{Ends}
-use Rattle.law_order.specs.pg_msg.declared.message.Message.{Message}
-use Rattle.law_order.specs.pg_msg.declared.message.Message.TheVariants as message
-use Rattle.law_order.specs.pg_msg.declared.message.Sent.{Sent}
-use Rattle.law_order.specs.pg_names.declared.attributes.Attributes.{Attributes}
-use Rattle.law_order.specs.pg_names.Names.{cell_at as entry_at, own_at, own_or_blank}
-use Rattle.law_order.specs.pg_register.declared.flag.Flag.{Flag}
-use Rattle.law_order.specs.pg_register.Flag.{flag_of}
-use Rattle.law_order.specs.pg_replica.declared.replica.Replica.{Replica}
-use Rattle.law_order.specs.pg_replica.Replicas.{lists_peer}
-use Rattle.law_order.specs.pg_store.declared.store.Store.{Store}
-use Rattle.law_order.specs.pg_store.Births.{birth_of, fill_at}
-use Rattle.law_order.specs.pg_store.Links.{is_linked}
-use Rattle.law_order.specs.pg_store.Cells.{cell_at, entry_cell, flag_cell, is_sure, version_cell}
-use Rattle.law_order.specs.pg_store.Seen.{server_of}
-use Rattle.law_order.specs.pg_store.Store.{is_held, replica_at}
-use Rattle.law_order.specs.pg_store.Together.{AreTogether, birth_at}
-use Rattle.law_order.specs.pg_cells.Sending.{Wanted, cells_where, told_as}
-use Rattle.law_order.specs.pg_graph.Leaving.{may_still_leave}
-use Rattle.law_order.specs.pg_intentions.Requests.{asks, asks_by, bye_message, confirm_message, leave_message}
-use Rattle.law_order.specs.pg_pieces.Posting.{sent_to}
-use Rattle.law_order.proofs.theory_flood_pieces.Choices.{chosen}
-use Rattle.law_order.proofs.theory_flood_pieces.Found.{entries_known}
-use Rattle.law_order.specs.pg_run.Births.{ends_named}
-use Rattle.law_order.proofs.pg_run.Bags.{All-every}
-use Rattle.law_order.proofs.pg_run.Event.{AskHas, CellHas, asks_by_have, asks_have, cells_have}
+use Rattle.pg_run.specs.pg_base.declared.id.FileId.{FileId}
+use Rattle.pg_run.specs.pg_base.Id.{file_cmp}
+use Rattle.pg_run.specs.pg_base.Version.{VersionValue}
+use Rattle.pg_run.specs.pg_edges.declared.edge.Edge.{Edge}
+use Rattle.pg_run.specs.pg_edges.Edges.{edge_to, is_listed, keys_if_born}
+use Rattle.pg_run.specs.pg_edges.declared.key.Key.{Key}
+use Rattle.pg_run.specs.pg_edges.declared.key.Key.TheVariants as key
+use Rattle.pg_run.specs.pg_entries.declared.cell.Cell.{Cell}
+use Rattle.pg_run.specs.pg_entries.declared.cell.Cell.TheVariants as cells
+use Rattle.pg_run.specs.pg_entries.declared.entry.Entry.{Entry}
+use Rattle.pg_run.specs.pg_intent.declared.intent.Intent.{Intent}
+use Rattle.pg_run.specs.pg_intent.declared.intent.Intent.TheVariants as intent
+use Rattle.pg_run.specs.pg_intent.Intent.{key_of}
+use Rattle.pg_run.specs.pg_intent.Intents.{HaveOwnKeys, intent_at, stands}
+use Rattle.pg_run.specs.pg_intent.declared.key.IntentKey.{IntentKey}
+use Rattle.pg_run.specs.pg_intent.declared.key.IntentKey.TheVariants as intent_key
+use Rattle.pg_run.proofs.pg_intent.Found.{stands_is}
+use Rattle.pg_run.proofs.pg_intent.Stands.{all_found}
+use Rattle.pg_run.specs.pg_msg.declared.message.Ends.{Ends}
+use Rattle.pg_run.specs.pg_msg.declared.message.Message.{Message}
+use Rattle.pg_run.specs.pg_msg.declared.message.Message.TheVariants as message
+use Rattle.pg_run.specs.pg_msg.declared.message.Sent.{Sent}
+use Rattle.pg_run.specs.pg_names.declared.attributes.Attributes.{Attributes}
+use Rattle.pg_run.specs.pg_names.Names.{cell_at as entry_at, own_at, own_or_blank}
+use Rattle.pg_run.specs.pg_register.declared.flag.Flag.{Flag}
+use Rattle.pg_run.specs.pg_register.Flag.{flag_of}
+use Rattle.pg_run.specs.pg_replica.declared.replica.Replica.{Replica}
+use Rattle.pg_run.specs.pg_replica.Replicas.{lists_peer}
+use Rattle.pg_run.specs.pg_store.declared.store.Store.{Store}
+use Rattle.pg_run.specs.pg_store.Births.{birth_of, fill_at}
+use Rattle.pg_run.specs.pg_store.Links.{is_linked}
+use Rattle.pg_run.specs.pg_store.Cells.{cell_at, entry_cell, flag_cell, is_sure, version_cell}
+use Rattle.pg_run.specs.pg_store.Seen.{server_of}
+use Rattle.pg_run.specs.pg_store.Store.{is_held, replica_at}
+use Rattle.pg_run.specs.pg_store.Together.{AreTogether, birth_at}
+use Rattle.pg_run.specs.pg_cells.Sending.{Wanted, cells_where, told_as}
+use Rattle.pg_run.specs.pg_graph.Leaving.{may_still_leave}
+use Rattle.pg_run.specs.pg_intentions.Requests.{asks, asks_by, bye_message, confirm_message, leave_message}
+use Rattle.pg_run.specs.pg_pieces.Posting.{sent_to}
+use Rattle.pg_run.proofs.theory_flood_pieces.Choices.{chosen}
+use Rattle.pg_run.proofs.theory_flood_pieces.Found.{entries_known}
+use Rattle.pg_run.specs.Births.{ends_named}
+use Rattle.pg_run.proofs.Bags.{All-every}
+use Rattle.pg_run.proofs.Event.{AskHas, CellHas, asks_by_have, asks_have, cells_have}
 use Rattle.law_births.specs.Flags.{SaysCell, SaysEntry, SaysIntent, SaysStore}
 use Rattle.law_births.proofs.EndsSay.{SaysEnds, edges_all}
 use Rattle.law_births.proofs.Ends.{ends}

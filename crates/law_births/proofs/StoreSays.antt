@@ -2,46 +2,46 @@
 use Rattle.std.proofs.Common.{ℕ, ◌≡◌, Bool, true, false, cond, not, List, [], ◌∷◌, ◌++◌, length, drop, filter, max, Option, None, Some, All, refl, subst}
 use Rattle.std.proofs.lemmas.Bool.{and_parts}
 use Rattle.std.proofs.lemmas.List.Elements.{All-cons, All-filter, All-head, All-nil, All-push, All-tail}
-use Rattle.law_order.specs.pg_base.declared.id.FileId.{FileId}
-use Rattle.law_order.specs.pg_base.declared.policy.Policy.{Policy}
-use Rattle.law_order.specs.pg_base.declared.stamp.Stamp.{Stamp}
-use Rattle.law_order.specs.pg_base.Id.{is_same_file}
-use Rattle.law_order.specs.pg_base.Version.{VersionValue}
-use Rattle.law_order.proofs.pg_base.Orders.{is_same_file-true}
-use Rattle.law_order.specs.pg_patch.Ranges.{RangesValue}
-use Rattle.law_order.specs.pg_edges.declared.key.Key.{Key}
-use Rattle.law_order.specs.pg_register.declared.flag.Flag.{Flag}
-use Rattle.law_order.specs.pg_register.declared.place.Place.{Place}
-use Rattle.law_order.specs.pg_entries.declared.entry.Entry.{Entry}
-use Rattle.law_order.specs.pg_entries.Entry.{joined}
-use Rattle.law_order.specs.pg_intent.declared.intent.Intent.{Intent}
-use Rattle.law_order.specs.pg_intent.declared.intent.Intent.TheVariants as intent
-use Rattle.law_order.specs.pg_intent.declared.key.IntentKey.{IntentKey}
-use Rattle.law_order.specs.pg_intent.declared.key.IntentKey.TheVariants as intent_key
-use Rattle.law_order.specs.pg_intent.Intent.{aimed_at, key_of, rejoined}
-use Rattle.law_order.specs.pg_intent.Intents.{aimed, begun, changed, ended, has_key, intent_at, stands}
-use Rattle.law_order.specs.pg_msg.declared.work.Touched.{Touched}
-use Rattle.law_order.specs.pg_msg.declared.work.Work.{Work}
-use Rattle.law_order.specs.pg_names.declared.attributes.Attributes.{Attributes}
-use Rattle.law_order.specs.pg_names.Names.{NamesValue, begin as begin_names, fill, join_entry, join_place, or_blank, own_at, own_or_blank}
-use Rattle.law_order.specs.pg_house.House.{house}
-use Rattle.law_order.specs.pg_house.Work.{state_of}
-use Rattle.law_order.specs.pg_replica.declared.link.Link.{Link}
-use Rattle.law_order.specs.pg_store.declared.store.Store.{Store}
-use Rattle.law_order.specs.pg_store.Beginning.{begin, let_go, patches_of, put_new, take_patch, take_patches, take_told, take_told_in, with_intents}
-use Rattle.law_order.specs.pg_store.Links.{is_linked, is_new_link, link, put_link, unlink}
-use Rattle.law_order.specs.pg_store.Store.{acknowledge, is_new_version, is_newer_entry, is_newer_flag, is_newer_place, put_entry, put_flag, put_place, put_version, take_entry, take_flag, take_place, take_version, touch, with_names, write}
-use Rattle.law_order.proofs.pg_store.Going.{cell_left, own_left}
-use Rattle.law_order.specs.pg_pieces.Done.{Done, idle}
-use Rattle.law_order.specs.pg_cells.Settling.{rules, touch_all}
-use Rattle.law_order.specs.pg_intentions.Beginning.{begin_end, still_stands}
-use Rattle.law_order.specs.pg_repair.Confirming.{own_entry}
-use Rattle.law_order.specs.pg_intentions.Confirms.{confirm_of}
-use Rattle.law_order.specs.pg_intentions.Fills.{fill_of, files_to_fill, with_fill_birth}
-use Rattle.law_order.specs.pg_intentions.Intending.{begin_intent}
-use Rattle.law_order.specs.pg_intentions.Patches.{patch_of}
-use Rattle.law_order.specs.pg_intentions.Seeks.{seek_target}
-use Rattle.law_order.proofs.theory_flood_pieces.Choices.{chosen}
+use Rattle.pg_run.specs.pg_base.declared.id.FileId.{FileId}
+use Rattle.pg_run.specs.pg_base.declared.policy.Policy.{Policy}
+use Rattle.pg_run.specs.pg_base.declared.stamp.Stamp.{Stamp}
+use Rattle.pg_run.specs.pg_base.Id.{is_same_file}
+use Rattle.pg_run.specs.pg_base.Version.{VersionValue}
+use Rattle.pg_run.proofs.pg_base.Orders.{is_same_file-true}
+use Rattle.pg_run.specs.pg_patch.Ranges.{RangesValue}
+use Rattle.pg_run.specs.pg_edges.declared.key.Key.{Key}
+use Rattle.pg_run.specs.pg_register.declared.flag.Flag.{Flag}
+use Rattle.pg_run.specs.pg_register.declared.place.Place.{Place}
+use Rattle.pg_run.specs.pg_entries.declared.entry.Entry.{Entry}
+use Rattle.pg_run.specs.pg_entries.Entry.{joined}
+use Rattle.pg_run.specs.pg_intent.declared.intent.Intent.{Intent}
+use Rattle.pg_run.specs.pg_intent.declared.intent.Intent.TheVariants as intent
+use Rattle.pg_run.specs.pg_intent.declared.key.IntentKey.{IntentKey}
+use Rattle.pg_run.specs.pg_intent.declared.key.IntentKey.TheVariants as intent_key
+use Rattle.pg_run.specs.pg_intent.Intent.{aimed_at, key_of, rejoined}
+use Rattle.pg_run.specs.pg_intent.Intents.{aimed, begun, changed, ended, has_key, intent_at, stands}
+use Rattle.pg_run.specs.pg_msg.declared.work.Touched.{Touched}
+use Rattle.pg_run.specs.pg_msg.declared.work.Work.{Work}
+use Rattle.pg_run.specs.pg_names.declared.attributes.Attributes.{Attributes}
+use Rattle.pg_run.specs.pg_names.Names.{NamesValue, begin as begin_names, fill, join_entry, join_place, or_blank, own_at, own_or_blank}
+use Rattle.pg_run.specs.pg_house.House.{house}
+use Rattle.pg_run.specs.pg_house.Work.{state_of}
+use Rattle.pg_run.specs.pg_replica.declared.link.Link.{Link}
+use Rattle.pg_run.specs.pg_store.declared.store.Store.{Store}
+use Rattle.pg_run.specs.pg_store.Beginning.{begin, let_go, patches_of, put_new, take_patch, take_patches, take_told, take_told_in, with_intents}
+use Rattle.pg_run.specs.pg_store.Links.{is_linked, is_new_link, link, put_link, unlink}
+use Rattle.pg_run.specs.pg_store.Store.{acknowledge, is_new_version, is_newer_entry, is_newer_flag, is_newer_place, put_entry, put_flag, put_place, put_version, take_entry, take_flag, take_place, take_version, touch, with_names, write}
+use Rattle.pg_run.proofs.pg_store.Going.{cell_left, own_left}
+use Rattle.pg_run.specs.pg_pieces.Done.{Done, idle}
+use Rattle.pg_run.specs.pg_cells.Settling.{rules, touch_all}
+use Rattle.pg_run.specs.pg_intentions.Beginning.{begin_end, still_stands}
+use Rattle.pg_run.specs.pg_repair.Confirming.{own_entry}
+use Rattle.pg_run.specs.pg_intentions.Confirms.{confirm_of}
+use Rattle.pg_run.specs.pg_intentions.Fills.{fill_of, files_to_fill, with_fill_birth}
+use Rattle.pg_run.specs.pg_intentions.Intending.{begin_intent}
+use Rattle.pg_run.specs.pg_intentions.Patches.{patch_of}
+use Rattle.pg_run.specs.pg_intentions.Seeks.{seek_target}
+use Rattle.pg_run.proofs.theory_flood_pieces.Choices.{chosen}
 use Rattle.law_order.proofs.law_frame.Ended.{fill_born, intents_keep}
 use Rattle.law_births.specs.Flags.{SaysEntry, SaysIntent, SaysNames, SaysStore}
 use Rattle.law_births.proofs.Joined.{joins_all}

@@ -2,40 +2,40 @@
 use Rattle.std.proofs.Common.{ℕ, ◌≡◌, ◌==◌, ◌/◌, ◌%◌, true, not, List, [], ◌∷◌, ◌++◌, length, slice_get, Option, None, Some, refl, ap, ◌∙◌}
 use Rattle.std.specs.Map.{keys_of}
 use Rattle.std.proofs.lemmas.List.{append-nil}
-use Rattle.law_order.specs.pg_base.declared.id.FileId.{FileId}
-use Rattle.law_order.specs.pg_call.declared.call.Call.{Call}
-use Rattle.law_order.specs.pg_calls.Calls.{do_call}
-use Rattle.law_order.specs.pg_calls.Dropping.{leave_of}
-use Rattle.law_order.specs.pg_calls.Forgetting.{bare_entry, dead_at}
-use Rattle.law_order.specs.pg_calls.GivingUp.{doubt_all}
-use Rattle.law_order.specs.pg_edges.declared.edge.Edge.{Edge}
-use Rattle.law_order.specs.pg_graph.Leaving.{bye_to}
-use Rattle.law_order.specs.pg_graph.Walks.{edges_of, most_hops, walk_along, walk_from, walk_of, walk_of_tick, with_few_edges}
-use Rattle.law_order.specs.pg_intent.declared.intent.Intent.{Intent}
-use Rattle.law_order.specs.pg_intent.Intent.{key_of}
-use Rattle.law_order.specs.pg_intent.Intents.{stands}
-use Rattle.law_order.specs.pg_intentions.Inviting.{invite_along, invite_each, invite_of, invites, loose_edge}
-use Rattle.law_order.specs.pg_msg.declared.message.Message.{Message}
-use Rattle.law_order.specs.pg_msg.declared.update.MadeVersion.{MadeVersion}
-use Rattle.law_order.specs.pg_msg.declared.update.Update.{Update}
-use Rattle.law_order.specs.pg_msg.declared.update.Update.TheVariants as update
-use Rattle.law_order.specs.pg_msg.declared.work.Work.{Work}
-use Rattle.law_order.specs.pg_msg.Work.{with_made}
-use Rattle.law_order.specs.pg_patch.Ranges.{RangesValue}
-use Rattle.law_order.specs.pg_pieces.Done.{Done}
-use Rattle.law_order.specs.pg_pieces.Intending.{begin_intent}
-use Rattle.law_order.specs.pg_pieces.Making.{make_flag, own_next, raise_flag}
-use Rattle.law_order.specs.pg_pieces.Taking.{take_place_noted}
-use Rattle.law_order.specs.pg_register.declared.flag.Flag.{Flag}
-use Rattle.law_order.specs.pg_register.declared.place.Place.{Place}
-use Rattle.law_order.specs.pg_server.Local.{receive}
-use Rattle.law_order.specs.pg_store.declared.store.Store.{Store}
-use Rattle.law_order.specs.pg_store.Births.{birth_of}
-use Rattle.law_order.specs.pg_store.Seen.{server_of}
-use Rattle.law_order.specs.pg_store.Views.{enter}
-use Rattle.law_order.proofs.theory_flood_pieces.Choices.{chosen}
-use Rattle.law_order.specs.pg_run.Journal.{versions_in}
-use Rattle.law_order.proofs.pg_run.Still.{begun_still, entry_cell_still, entry_still, flag_still, linked_still, place_still, version_still}
+use Rattle.pg_run.specs.pg_base.declared.id.FileId.{FileId}
+use Rattle.pg_run.specs.pg_call.declared.call.Call.{Call}
+use Rattle.pg_run.specs.pg_calls.Calls.{do_call}
+use Rattle.pg_run.specs.pg_calls.Dropping.{leave_of}
+use Rattle.pg_run.specs.pg_calls.Forgetting.{bare_entry, dead_at}
+use Rattle.pg_run.specs.pg_calls.GivingUp.{doubt_all}
+use Rattle.pg_run.specs.pg_edges.declared.edge.Edge.{Edge}
+use Rattle.pg_run.specs.pg_graph.Leaving.{bye_to}
+use Rattle.pg_run.specs.pg_graph.Walks.{edges_of, most_hops, walk_along, walk_from, walk_of, walk_of_tick, with_few_edges}
+use Rattle.pg_run.specs.pg_intent.declared.intent.Intent.{Intent}
+use Rattle.pg_run.specs.pg_intent.Intent.{key_of}
+use Rattle.pg_run.specs.pg_intent.Intents.{stands}
+use Rattle.pg_run.specs.pg_intentions.Inviting.{invite_along, invite_each, invite_of, invites, loose_edge}
+use Rattle.pg_run.specs.pg_msg.declared.message.Message.{Message}
+use Rattle.pg_run.specs.pg_msg.declared.update.MadeVersion.{MadeVersion}
+use Rattle.pg_run.specs.pg_msg.declared.update.Update.{Update}
+use Rattle.pg_run.specs.pg_msg.declared.update.Update.TheVariants as update
+use Rattle.pg_run.specs.pg_msg.declared.work.Work.{Work}
+use Rattle.pg_run.specs.pg_msg.Work.{with_made}
+use Rattle.pg_run.specs.pg_patch.Ranges.{RangesValue}
+use Rattle.pg_run.specs.pg_pieces.Done.{Done}
+use Rattle.pg_run.specs.pg_pieces.Intending.{begin_intent}
+use Rattle.pg_run.specs.pg_pieces.Making.{make_flag, own_next, raise_flag}
+use Rattle.pg_run.specs.pg_pieces.Taking.{take_place_noted}
+use Rattle.pg_run.specs.pg_register.declared.flag.Flag.{Flag}
+use Rattle.pg_run.specs.pg_register.declared.place.Place.{Place}
+use Rattle.pg_run.specs.pg_server.Local.{receive}
+use Rattle.pg_run.specs.pg_store.declared.store.Store.{Store}
+use Rattle.pg_run.specs.pg_store.Births.{birth_of}
+use Rattle.pg_run.specs.pg_store.Seen.{server_of}
+use Rattle.pg_run.specs.pg_store.Views.{enter}
+use Rattle.pg_run.proofs.theory_flood_pieces.Choices.{chosen}
+use Rattle.pg_run.specs.Journal.{versions_in}
+use Rattle.pg_run.proofs.Still.{begun_still, entry_cell_still, entry_still, flag_still, linked_still, place_still, version_still}
 use Rattle.law_order.proofs.law_frame.Called.{call_keeps}
 use Rattle.law_order.proofs.law_frame.Keeps.{Keeps}
 use Rattle.law_order.proofs.law_frame.KeepsCalls.{KeepsCalls, MakesVersion}

@@ -3,21 +3,21 @@ use Rattle.std.proofs.Common.{[], Contains, ℕ, ◌≡◌, ◌==◌, ◌/◌, �
 use Rattle.std.specs.Option.{option_map}
 use Rattle.std.proofs.lemmas.List.Elements.{All-contains, All-nil}
 use Rattle.std.proofs.lemmas.Option.{get_or_from_slice_get, slice_get_within}
-use Rattle.law_order.specs.pg_base.declared.id.FileId.{FileId}
-use Rattle.law_order.specs.pg_edges.declared.edge.Edge.{Edge}
-use Rattle.law_order.specs.pg_msg.declared.message.Message.TheVariants as message
-use Rattle.law_order.specs.pg_msg.declared.work.Work.{Work}
-use Rattle.law_order.specs.pg_register.declared.flag.Flag.{Flag}
-use Rattle.law_order.specs.pg_replica.declared.replica.Replica.{Replica}
-use Rattle.law_order.specs.pg_replica.Replicas.{or_nothing}
-use Rattle.law_order.specs.pg_store.declared.store.Store.{Store}
-use Rattle.law_order.specs.pg_store.Births.{birth_of}
-use Rattle.law_order.specs.pg_store.Seen.{server_of}
-use Rattle.law_order.specs.pg_store.Store.{replica_at}
-use Rattle.law_order.specs.pg_pieces.Done.{Done, idle}
-use Rattle.law_order.specs.pg_repair.Fetching.{ends_to}
-use Rattle.law_order.specs.pg_graph.Walks.{edges_of, most_hops, walk_along, walk_from, walk_of, walk_of_tick, with_few_edges}
-use Rattle.law_order.proofs.theory_flood_pieces.Choices.{chosen}
+use Rattle.pg_run.specs.pg_base.declared.id.FileId.{FileId}
+use Rattle.pg_run.specs.pg_edges.declared.edge.Edge.{Edge}
+use Rattle.pg_run.specs.pg_msg.declared.message.Message.TheVariants as message
+use Rattle.pg_run.specs.pg_msg.declared.work.Work.{Work}
+use Rattle.pg_run.specs.pg_register.declared.flag.Flag.{Flag}
+use Rattle.pg_run.specs.pg_replica.declared.replica.Replica.{Replica}
+use Rattle.pg_run.specs.pg_replica.Replicas.{or_nothing}
+use Rattle.pg_run.specs.pg_store.declared.store.Store.{Store}
+use Rattle.pg_run.specs.pg_store.Births.{birth_of}
+use Rattle.pg_run.specs.pg_store.Seen.{server_of}
+use Rattle.pg_run.specs.pg_store.Store.{replica_at}
+use Rattle.pg_run.specs.pg_pieces.Done.{Done, idle}
+use Rattle.pg_run.specs.pg_repair.Fetching.{ends_to}
+use Rattle.pg_run.specs.pg_graph.Walks.{edges_of, most_hops, walk_along, walk_from, walk_of, walk_of_tick, with_few_edges}
+use Rattle.pg_run.proofs.theory_flood_pieces.Choices.{chosen}
 use Rattle.law_births.proofs.Ends.{ends}
 use Rattle.law_births.proofs.EndsSay.{SaysEnds, edges_all}
 use Rattle.law_births.proofs.Pieces.{shape}

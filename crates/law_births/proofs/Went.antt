@@ -4,25 +4,25 @@ use Rattle.std.proofs.Common.{ℕ, ◌≡◌, ◌≤◌, ◌<◌, ◌⊎◌, ari
 use Rattle.std.specs.Option.{option_map}
 use Rattle.std.proofs.lemmas.Bool.{and_parts, cases_lt}
 use Rattle.std.proofs.lemmas.Option.{none-some}
-use Rattle.law_order.specs.pg_base.declared.id.FileId.{FileId}
-use Rattle.law_order.specs.pg_edges.Edges.{is_listed}
-use Rattle.law_order.specs.pg_event.declared.event.Event.{Event}
-use Rattle.law_order.specs.pg_msg.declared.message.Message.{Message}
-use Rattle.law_order.specs.pg_msg.Work.{new_work}
-use Rattle.law_order.specs.pg_graph.Leaving.{may_leave}
-use Rattle.law_order.specs.pg_replica.declared.replica.Replica.{Replica}
-use Rattle.law_order.specs.pg_server.declared.input.Input.{Input}
-use Rattle.law_order.specs.pg_server.declared.input.Input.TheVariants as input
-use Rattle.law_order.specs.pg_server.Local.{effect, first_effect, takes_effect}
-use Rattle.law_order.specs.pg_store.declared.store.Store.{Store}
-use Rattle.law_order.specs.pg_store.Store.{replica_at}
-use Rattle.law_order.specs.pg_store.Together.{IsOver, birth_at}
-use Rattle.law_order.specs.pg_run.Carried.{gone_by, gone_in}
-use Rattle.law_order.specs.pg_run.Going.{BirthsEndByLeave, EdgesGoByWord, IsRemovedBehind, SaysItWent}
-use Rattle.law_order.specs.pg_run.Laws.{TakesIn, store_after}
-use Rattle.law_order.specs.pg_run.Ruled.{WhatGoesIsOver}
-use Rattle.law_order.specs.pg_run.Run.{run}
-use Rattle.law_order.proofs.pg_run.Frame.{acts_is}
+use Rattle.pg_run.specs.pg_base.declared.id.FileId.{FileId}
+use Rattle.pg_run.specs.pg_edges.Edges.{is_listed}
+use Rattle.pg_run.specs.pg_event.declared.event.Event.{Event}
+use Rattle.pg_run.specs.pg_msg.declared.message.Message.{Message}
+use Rattle.pg_run.specs.pg_msg.Work.{new_work}
+use Rattle.pg_run.specs.pg_graph.Leaving.{may_leave}
+use Rattle.pg_run.specs.pg_replica.declared.replica.Replica.{Replica}
+use Rattle.pg_run.specs.pg_server.declared.input.Input.{Input}
+use Rattle.pg_run.specs.pg_server.declared.input.Input.TheVariants as input
+use Rattle.pg_run.specs.pg_server.Local.{effect, first_effect, takes_effect}
+use Rattle.pg_run.specs.pg_store.declared.store.Store.{Store}
+use Rattle.pg_run.specs.pg_store.Store.{replica_at}
+use Rattle.pg_run.specs.pg_store.Together.{IsOver, birth_at}
+use Rattle.pg_run.specs.Carried.{gone_by, gone_in}
+use Rattle.pg_run.specs.Going.{BirthsEndByLeave, EdgesGoByWord, IsRemovedBehind, SaysItWent}
+use Rattle.pg_run.specs.Laws.{TakesIn, store_after}
+use Rattle.pg_run.specs.Ruled.{WhatGoesIsOver}
+use Rattle.pg_run.specs.Run.{run}
+use Rattle.pg_run.proofs.Frame.{acts_is}
 use Rattle.law_births.specs.Premises.{FillsAlwaysStand, NextIdsAreFree}
 use Rattle.law_births.proofs.Alone.{alone_always}
 use Rattle.law_births.proofs.Effects.{LetsIn, effect_moves, end_moves}

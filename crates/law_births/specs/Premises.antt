@@ -1,21 +1,21 @@
 -- What is asked of runs here, that other laws give.
 use Rattle.std.specs.Prelude.{ℕ, ◌≡◌, false, List, None, Some, All}
-use Rattle.law_order.specs.pg_base.declared.id.FileId.{FileId}
-use Rattle.law_order.specs.pg_base.declared.id.Kind.{Kind}
-use Rattle.law_order.specs.pg_event.declared.event.Event.{Event}
-use Rattle.law_order.specs.pg_store.declared.store.Store.{Store}
-use Rattle.law_order.specs.pg_store.Births.{fill_at}
-use Rattle.law_order.specs.pg_store.Store.{is_held}
-use Rattle.law_order.specs.pg_calls.Naming.{next_id}
-use Rattle.law_order.specs.pg_run.Intending.{FillsStand}
-use Rattle.law_order.specs.pg_run.Laws.{AtEach, store_after}
-use Rattle.law_order.specs.pg_msg.declared.update.MadeVersion.{MadeVersion}
-use Rattle.law_order.specs.theory_flood_pieces.Whole.{IsWhole}
-use Rattle.law_order.specs.pg_server.declared.input.Input.{Input}
-use Rattle.law_order.specs.pg_server.Local.{effect}
-use Rattle.law_order.specs.pg_store.Together.{birth_at}
-use Rattle.law_order.specs.pg_run.Journal.{versions_in}
-use Rattle.law_order.specs.pg_run.Run.{run, taking_in}
+use Rattle.pg_run.specs.pg_base.declared.id.FileId.{FileId}
+use Rattle.pg_run.specs.pg_base.declared.id.Kind.{Kind}
+use Rattle.pg_run.specs.pg_event.declared.event.Event.{Event}
+use Rattle.pg_run.specs.pg_store.declared.store.Store.{Store}
+use Rattle.pg_run.specs.pg_store.Births.{fill_at}
+use Rattle.pg_run.specs.pg_store.Store.{is_held}
+use Rattle.pg_run.specs.pg_calls.Naming.{next_id}
+use Rattle.pg_run.specs.Intending.{FillsStand}
+use Rattle.pg_run.specs.Laws.{AtEach, store_after}
+use Rattle.pg_run.specs.pg_msg.declared.update.MadeVersion.{MadeVersion}
+use Rattle.pg_run.specs.theory_flood_pieces.Whole.{IsWhole}
+use Rattle.pg_run.specs.pg_server.declared.input.Input.{Input}
+use Rattle.pg_run.specs.pg_server.Local.{effect}
+use Rattle.pg_run.specs.pg_store.Together.{birth_at}
+use Rattle.pg_run.specs.Journal.{versions_in}
+use Rattle.pg_run.specs.Run.{run, taking_in}
 
 -- behind each event a Fill stands of just what is to be filled
 abbrev pub FillsAlwaysStand : ℕ → Type 0

@@ -1,11 +1,11 @@
 //! What holds of births along every run. Each law is a clause of a function that does nothing.
 
 ghost use Rattle.std.specs.Prelude.{ℕ};
-ghost use Rattle.law_order.specs.pg_run.Births.{BirthsAreAlone, BirthsAreKnown, BirthsAreOfOneThing, BirthsMoveInEvents, BirthsMoveOn, GoneSays, GreaterBirthsReplaceEdges, LinksNameTheSender, ReplicasStayOrGo};
-ghost use Rattle.law_order.specs.pg_run.Going.{BirthsEndByLeave, ByesBeginWhereOneGoes, ByesEndByAnswers, EachPeerIsTold, EdgesGoByWord};
-ghost use Rattle.law_order.specs.pg_run.Intending.{IntentionsAreInOrder};
-ghost use Rattle.law_order.specs.pg_run.Leaving.{ByesAreOfOver};
-ghost use Rattle.law_order.specs.pg_run.Ruled.{WhatGoesIsOver};
+ghost use Rattle.pg_run.specs.Births.{BirthsAreAlone, BirthsAreKnown, BirthsAreOfOneThing, BirthsMoveInEvents, BirthsMoveOn, GoneSays, GreaterBirthsReplaceEdges, LinksNameTheSender, ReplicasStayOrGo};
+ghost use Rattle.pg_run.specs.Going.{BirthsEndByLeave, ByesBeginWhereOneGoes, ByesEndByAnswers, EachPeerIsTold, EdgesGoByWord};
+ghost use Rattle.pg_run.specs.Intending.{IntentionsAreInOrder};
+ghost use Rattle.pg_run.specs.Leaving.{ByesAreOfOver};
+ghost use Rattle.pg_run.specs.Ruled.{WhatGoesIsOver};
 
 /// Of each thing a server has one birth at a time, of its replica or to come; it is the greatest
 /// that the server gave out for the thing; and what was given out for one thing was given out for

@@ -5,39 +5,39 @@ use Rattle.std.specs.List.{list_any}
 use Rattle.std.specs.Map.{keys_of}
 use Rattle.std.specs.Option.{option_map}
 use Rattle.std.proofs.lemmas.Bool.{false≢true, or_left, or_right}
-use Rattle.law_ticks.specs.pg_run.pg_base.declared.id.FileId.{FileId}
-use Rattle.law_ticks.specs.pg_run.pg_base.Id.{is_same_file}
-use Rattle.law_ticks.specs.pg_run.pg_names.Names.{NamesValue, is_held, own_or_blank}
-use Rattle.law_ticks.specs.pg_run.pg_register.Flag.{is_raised}
-use Rattle.law_ticks.specs.pg_run.pg_replica.declared.replica.Replica.{Replica}
-use Rattle.law_ticks.specs.pg_run.pg_replica.Index.{Files}
-use Rattle.law_ticks.specs.pg_run.pg_replica.Replicas.{or_nothing}
-use Rattle.law_ticks.specs.pg_run.pg_intent.declared.intent.Intent.{Intent}
-use Rattle.law_ticks.specs.pg_run.pg_intent.declared.intent.Intent.TheVariants as intent
-use Rattle.law_ticks.specs.pg_run.pg_intent.declared.key.IntentKey.{IntentKey}
-use Rattle.law_ticks.specs.pg_run.pg_intent.declared.key.IntentKey.TheVariants as intent_key
-use Rattle.law_ticks.specs.pg_run.pg_intent.Intent.{aimed_at}
-use Rattle.law_ticks.specs.pg_run.pg_intent.Intents.{begun_on, has_key, intent_at}
-use Rattle.law_ticks.specs.pg_run.pg_msg.declared.work.Slot.{Slot}
-use Rattle.law_ticks.specs.pg_run.pg_msg.declared.work.Work.{Work}
-use Rattle.law_ticks.specs.pg_run.pg_msg.Work.{new_work}
-use Rattle.law_ticks.specs.pg_run.pg_store.declared.store.Store.{Store}
-use Rattle.law_ticks.specs.pg_run.pg_store.Births.{fill_at}
-use Rattle.law_ticks.specs.pg_run.pg_store.Store.{replica_at}
-use Rattle.law_ticks.specs.pg_run.pg_pieces.Done.{Done, idle}
-use Rattle.law_ticks.specs.pg_run.pg_intentions.Beginning.{begin_end, confirms_after, end_others, fills_after, seeks_after, still_stands}
-use Rattle.law_ticks.specs.pg_run.pg_intentions.Confirms.{begin_confirm}
-use Rattle.law_ticks.specs.pg_run.pg_intentions.Fills.{files_to_fill, is_in, to_fill}
-use Rattle.law_ticks.specs.pg_run.pg_intentions.Intending.{begin_intent, each, in_order, with_begun_if}
-use Rattle.law_ticks.specs.pg_run.pg_intentions.Patches.{begin_patch}
-use Rattle.law_ticks.specs.pg_run.pg_intentions.Seeks.{aim_seek, begin_seek, begin_seeks, has_seek, is_apart, is_seeking, matches, seek_again, seek_target, to_seek, was_linked}
-use Rattle.law_ticks.proofs.pg_run.pg_base.Orders.{is_same_file-refl, is_same_file-true}
-use Rattle.law_ticks.proofs.pg_run.pg_intent.Found.{aimed_found, begun_found}
-use Rattle.law_ticks.proofs.pg_run.pg_intentions.Idle.{FillsFit, SeeksFit, fills_fit, seeks_fit}
-use Rattle.law_ticks.proofs.pg_run.pg_intentions.Sought.{stands_there}
-use Rattle.law_ticks.proofs.pg_run.pg_intentions.Standing.{among, filtered}
-use Rattle.law_ticks.proofs.pg_run.pg_intentions.Steady.{HaveFills, each_stays, fills_idle, seek_stays}
-use Rattle.law_ticks.proofs.pg_run.Ticks.{StaysIntended}
+use Rattle.pg_run.specs.pg_base.declared.id.FileId.{FileId}
+use Rattle.pg_run.specs.pg_base.Id.{is_same_file}
+use Rattle.pg_run.specs.pg_names.Names.{NamesValue, is_held, own_or_blank}
+use Rattle.pg_run.specs.pg_register.Flag.{is_raised}
+use Rattle.pg_run.specs.pg_replica.declared.replica.Replica.{Replica}
+use Rattle.pg_run.specs.pg_replica.Index.{Files}
+use Rattle.pg_run.specs.pg_replica.Replicas.{or_nothing}
+use Rattle.pg_run.specs.pg_intent.declared.intent.Intent.{Intent}
+use Rattle.pg_run.specs.pg_intent.declared.intent.Intent.TheVariants as intent
+use Rattle.pg_run.specs.pg_intent.declared.key.IntentKey.{IntentKey}
+use Rattle.pg_run.specs.pg_intent.declared.key.IntentKey.TheVariants as intent_key
+use Rattle.pg_run.specs.pg_intent.Intent.{aimed_at}
+use Rattle.pg_run.specs.pg_intent.Intents.{begun_on, has_key, intent_at}
+use Rattle.pg_run.specs.pg_msg.declared.work.Slot.{Slot}
+use Rattle.pg_run.specs.pg_msg.declared.work.Work.{Work}
+use Rattle.pg_run.specs.pg_msg.Work.{new_work}
+use Rattle.pg_run.specs.pg_store.declared.store.Store.{Store}
+use Rattle.pg_run.specs.pg_store.Births.{fill_at}
+use Rattle.pg_run.specs.pg_store.Store.{replica_at}
+use Rattle.pg_run.specs.pg_pieces.Done.{Done, idle}
+use Rattle.pg_run.specs.pg_intentions.Beginning.{begin_end, confirms_after, end_others, fills_after, seeks_after, still_stands}
+use Rattle.pg_run.specs.pg_intentions.Confirms.{begin_confirm}
+use Rattle.pg_run.specs.pg_intentions.Fills.{files_to_fill, is_in, to_fill}
+use Rattle.pg_run.specs.pg_intentions.Intending.{begin_intent, each, in_order, with_begun_if}
+use Rattle.pg_run.specs.pg_intentions.Patches.{begin_patch}
+use Rattle.pg_run.specs.pg_intentions.Seeks.{aim_seek, begin_seek, begin_seeks, has_seek, is_apart, is_seeking, matches, seek_again, seek_target, to_seek, was_linked}
+use Rattle.pg_run.proofs.pg_base.Orders.{is_same_file-refl, is_same_file-true}
+use Rattle.pg_run.proofs.pg_intent.Found.{aimed_found, begun_found}
+use Rattle.pg_run.proofs.pg_intentions.Idle.{FillsFit, SeeksFit, fills_fit, seeks_fit}
+use Rattle.pg_run.proofs.pg_intentions.Sought.{stands_there}
+use Rattle.pg_run.proofs.pg_intentions.Standing.{among, filtered}
+use Rattle.pg_run.proofs.pg_intentions.Steady.{HaveFills, each_stays, fills_idle, seek_stays}
+use Rattle.pg_run.proofs.Ticks.{StaysIntended}
 
 -- ---- what seeks, by its names and its replica
 

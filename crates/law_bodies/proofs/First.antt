@@ -3,51 +3,51 @@ use Rattle.std.proofs.Common.{[], ℕ, ◌≡◌, ◌==◌, ◌++◌, ◌⊎◌,
 use Rattle.std.specs.List.{AllZip, filter, flat_map}
 use Rattle.std.proofs.lemmas.Bool.{false≢true}
 use Rattle.std.proofs.lemmas.List.{append-nil, append_assoc}
-use Rattle.law_ticks.specs.pg_run.pg_base.declared.head.Head.{Head}
-use Rattle.law_ticks.specs.pg_run.pg_base.declared.id.FileId.{FileId}
-use Rattle.law_ticks.specs.pg_run.pg_base.Version.{actor_of}
-use Rattle.law_ticks.specs.pg_run.pg_announced.declared.announced.Announced.{Announced}
-use Rattle.law_ticks.specs.pg_run.pg_announced.Announced.{NotesValue, is_awaited, key_at, note_at}
-use Rattle.law_ticks.specs.pg_run.pg_content.Content.{ContentValue, is_covered}
-use Rattle.law_ticks.specs.pg_run.pg_edges.declared.edge.Edge.{Edge}
-use Rattle.law_ticks.specs.pg_run.pg_house.Facts.{AreOrdered}
-use Rattle.law_ticks.specs.pg_run.pg_intent.declared.intent.Intent.{Intent}
-use Rattle.law_ticks.specs.pg_run.pg_intent.declared.intent.Intent.TheVariants as intent
-use Rattle.law_ticks.specs.pg_run.pg_intent.declared.key.IntentKey.{IntentKey}
-use Rattle.law_ticks.specs.pg_run.pg_intent.declared.key.IntentKey.TheVariants as intent_key
-use Rattle.law_ticks.specs.pg_run.pg_intent.Intents.{has_key, intent_at}
-use Rattle.law_ticks.specs.pg_run.pg_msg.declared.message.Ends.{Ends}
-use Rattle.law_ticks.specs.pg_run.pg_msg.declared.message.Message.TheVariants as message
-use Rattle.law_ticks.specs.pg_run.pg_msg.declared.message.Sent.{Sent}
-use Rattle.law_ticks.specs.pg_run.pg_msg.declared.work.Linked.{Linked}
-use Rattle.law_ticks.specs.pg_run.pg_msg.declared.work.Work.{Work}
-use Rattle.law_ticks.specs.pg_run.pg_msg.Work.{new_work}
-use Rattle.law_ticks.specs.pg_run.pg_names.Names.{NamesValue}
-use Rattle.law_ticks.specs.pg_run.pg_replica.Replicas.{ByFile}
-use Rattle.law_ticks.specs.pg_run.pg_store.declared.store.Store.{Store}
-use Rattle.law_ticks.specs.pg_run.pg_store.Births.{birth_of}
-use Rattle.law_ticks.specs.pg_run.pg_store.Links.{is_new_link}
-use Rattle.law_ticks.specs.pg_run.pg_store.Store.{content_of, replica_of}
-use Rattle.law_ticks.specs.pg_run.pg_pieces.Accepting.{ends_to}
-use Rattle.law_ticks.specs.pg_run.pg_pieces.Done.{Done, idle}
-use Rattle.law_ticks.specs.pg_run.pg_pieces.Posting.{sent_to}
-use Rattle.law_ticks.specs.pg_run.pg_cells.Sending.{cells_where, is_chosen}
-use Rattle.law_ticks.specs.pg_run.pg_intentions.Beginning.{begin_end}
-use Rattle.law_ticks.specs.pg_run.pg_intentions.Intending.{pieces}
-use Rattle.law_ticks.specs.pg_run.pg_intentions.Requests.{asks, asks_by}
-use Rattle.law_ticks.specs.pg_run.pg_intentions.Seeks.{has_seek}
-use Rattle.law_ticks.specs.pg_run.pg_server.Local.{Effect, closed, finished, intended, settled}
-use Rattle.law_ticks.specs.pg_run.pg_server.pg_transfer.Asking.{acknowledged, heard_by, noted, put_off}
-use Rattle.law_ticks.specs.pg_run.pg_server.pg_transfer.Harbinger.{first_heard, heard, heard_beside}
-use Rattle.law_ticks.specs.pg_run.Bodies.{IsHeardBy, IsOfLink, IsSeekBegun, SendsFirst, edges_beside, want_first}
-use Rattle.law_ticks.specs.pg_run.Golds.{FullSeeGold}
-use Rattle.law_ticks.specs.pg_run.Laws.{IsInOrder}
-use Rattle.law_ticks.proofs.pg_run.pg_base.Orders.{is_same_file-true}
-use Rattle.law_ticks.proofs.pg_run.pg_graph.LeaveOk.{found_keyed}
-use Rattle.law_ticks.proofs.pg_run.pg_intentions.Sought.{seeks_moved}
-use Rattle.law_ticks.proofs.pg_run.pg_intentions.Steady.{IsSteady, begin_end_stays}
-use Rattle.law_ticks.proofs.pg_run.theory_flood_pieces.Choices.{chosen}
-use Rattle.law_ticks.proofs.pg_run.Ticks.{IsTidy, nothing_more, settled_is}
+use Rattle.pg_run.specs.pg_base.declared.head.Head.{Head}
+use Rattle.pg_run.specs.pg_base.declared.id.FileId.{FileId}
+use Rattle.pg_run.specs.pg_base.Version.{actor_of}
+use Rattle.pg_run.specs.pg_announced.declared.announced.Announced.{Announced}
+use Rattle.pg_run.specs.pg_announced.Announced.{NotesValue, is_awaited, key_at, note_at}
+use Rattle.pg_run.specs.pg_content.Content.{ContentValue, is_covered}
+use Rattle.pg_run.specs.pg_edges.declared.edge.Edge.{Edge}
+use Rattle.pg_run.specs.pg_house.Facts.{AreOrdered}
+use Rattle.pg_run.specs.pg_intent.declared.intent.Intent.{Intent}
+use Rattle.pg_run.specs.pg_intent.declared.intent.Intent.TheVariants as intent
+use Rattle.pg_run.specs.pg_intent.declared.key.IntentKey.{IntentKey}
+use Rattle.pg_run.specs.pg_intent.declared.key.IntentKey.TheVariants as intent_key
+use Rattle.pg_run.specs.pg_intent.Intents.{has_key, intent_at}
+use Rattle.pg_run.specs.pg_msg.declared.message.Ends.{Ends}
+use Rattle.pg_run.specs.pg_msg.declared.message.Message.TheVariants as message
+use Rattle.pg_run.specs.pg_msg.declared.message.Sent.{Sent}
+use Rattle.pg_run.specs.pg_msg.declared.work.Linked.{Linked}
+use Rattle.pg_run.specs.pg_msg.declared.work.Work.{Work}
+use Rattle.pg_run.specs.pg_msg.Work.{new_work}
+use Rattle.pg_run.specs.pg_names.Names.{NamesValue}
+use Rattle.pg_run.specs.pg_replica.Replicas.{ByFile}
+use Rattle.pg_run.specs.pg_store.declared.store.Store.{Store}
+use Rattle.pg_run.specs.pg_store.Births.{birth_of}
+use Rattle.pg_run.specs.pg_store.Links.{is_new_link}
+use Rattle.pg_run.specs.pg_store.Store.{content_of, replica_of}
+use Rattle.pg_run.specs.pg_pieces.Accepting.{ends_to}
+use Rattle.pg_run.specs.pg_pieces.Done.{Done, idle}
+use Rattle.pg_run.specs.pg_pieces.Posting.{sent_to}
+use Rattle.pg_run.specs.pg_cells.Sending.{cells_where, is_chosen}
+use Rattle.pg_run.specs.pg_intentions.Beginning.{begin_end}
+use Rattle.pg_run.specs.pg_intentions.Intending.{pieces}
+use Rattle.pg_run.specs.pg_intentions.Requests.{asks, asks_by}
+use Rattle.pg_run.specs.pg_intentions.Seeks.{has_seek}
+use Rattle.pg_run.specs.pg_server.Local.{Effect, closed, finished, intended, settled}
+use Rattle.pg_run.specs.pg_server.pg_transfer.Asking.{acknowledged, heard_by, noted, put_off}
+use Rattle.pg_run.specs.pg_server.pg_transfer.Harbinger.{first_heard, heard, heard_beside}
+use Rattle.pg_run.specs.Bodies.{IsHeardBy, IsOfLink, IsSeekBegun, SendsFirst, edges_beside, want_first}
+use Rattle.pg_run.specs.Golds.{FullSeeGold}
+use Rattle.pg_run.specs.Laws.{IsInOrder}
+use Rattle.pg_run.proofs.pg_base.Orders.{is_same_file-true}
+use Rattle.pg_run.proofs.pg_graph.LeaveOk.{found_keyed}
+use Rattle.pg_run.proofs.pg_intentions.Sought.{seeks_moved}
+use Rattle.pg_run.proofs.pg_intentions.Steady.{IsSteady, begin_end_stays}
+use Rattle.pg_run.proofs.theory_flood_pieces.Choices.{chosen}
+use Rattle.pg_run.proofs.Ticks.{IsTidy, nothing_more, settled_is}
 use Rattle.law_bodies.proofs.Begun.{IsBegun, seeks, which_begin}
 use Rattle.law_bodies.proofs.Linked.{IsBeside}
 

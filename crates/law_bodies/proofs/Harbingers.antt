@@ -2,29 +2,29 @@
 use Rattle.std.proofs.Common.{[], ℕ, ◌≡◌, ◌++◌, Bool, true, false, not, cond, List, ◌∷◌, None, refl, sym, ap, subst, ◌∙◌, All}
 use Rattle.std.proofs.lemmas.Bool.{and_parts, false≢true, not-true}
 use Rattle.std.proofs.lemmas.List.Elements.{All-nil}
-use Rattle.law_ticks.specs.pg_run.pg_base.declared.head.Head.{Head}
-use Rattle.law_ticks.specs.pg_run.pg_event.declared.event.Event.{Event}
-use Rattle.law_ticks.specs.pg_run.pg_msg.declared.message.Ends.{Ends}
-use Rattle.law_ticks.specs.pg_run.pg_msg.declared.message.Message.{Message}
-use Rattle.law_ticks.specs.pg_run.pg_msg.declared.work.Linked.{Linked}
-use Rattle.law_ticks.specs.pg_run.pg_msg.declared.work.Work.{Work}
-use Rattle.law_ticks.specs.pg_run.pg_msg.Work.{new_work}
-use Rattle.law_ticks.specs.pg_run.pg_store.declared.store.Store.{Store}
-use Rattle.law_ticks.specs.pg_run.pg_store.Births.{has_birth}
-use Rattle.law_ticks.specs.pg_run.pg_store.Links.{is_new_link, knows_later, put_link}
-use Rattle.law_ticks.specs.pg_run.pg_pieces.declared.accepting.EdgeUse.TheVariants as manner
-use Rattle.law_ticks.specs.pg_run.pg_pieces.Accepting.{accept, is_accepted, is_current, link_peer, meets, with_gone, with_link}
-use Rattle.law_ticks.specs.pg_run.pg_pieces.Done.{Done, idle}
-use Rattle.law_ticks.specs.pg_run.pg_server.declared.input.Input.TheVariants as input
-use Rattle.law_ticks.specs.pg_run.pg_server.Local.{Effect, closed, effect, finished, receive}
-use Rattle.law_ticks.specs.pg_run.pg_server.pg_transfer.Harbinger.{harbinger, heard, heard_along}
-use Rattle.law_ticks.specs.pg_run.theory_flood_pieces.Whole.{IsWhole}
-use Rattle.law_ticks.specs.pg_run.Bodies.{FirstHarbingersAsk, HearsFirst, IsOfLink, SendsFirst}
-use Rattle.law_ticks.specs.pg_run.Laws.{store_after}
-use Rattle.law_ticks.specs.pg_run.Run.{Step, Taking, World, next, run, start}
-use Rattle.law_ticks.proofs.pg_run.theory_flood.Flood.{after_itself}
-use Rattle.law_ticks.proofs.pg_run.Frame.{acts_is, next_is, run_more}
-use Rattle.law_ticks.proofs.pg_run.Ticks.{IsTidy}
+use Rattle.pg_run.specs.pg_base.declared.head.Head.{Head}
+use Rattle.pg_run.specs.pg_event.declared.event.Event.{Event}
+use Rattle.pg_run.specs.pg_msg.declared.message.Ends.{Ends}
+use Rattle.pg_run.specs.pg_msg.declared.message.Message.{Message}
+use Rattle.pg_run.specs.pg_msg.declared.work.Linked.{Linked}
+use Rattle.pg_run.specs.pg_msg.declared.work.Work.{Work}
+use Rattle.pg_run.specs.pg_msg.Work.{new_work}
+use Rattle.pg_run.specs.pg_store.declared.store.Store.{Store}
+use Rattle.pg_run.specs.pg_store.Births.{has_birth}
+use Rattle.pg_run.specs.pg_store.Links.{is_new_link, knows_later, put_link}
+use Rattle.pg_run.specs.pg_pieces.declared.accepting.EdgeUse.TheVariants as manner
+use Rattle.pg_run.specs.pg_pieces.Accepting.{accept, is_accepted, is_current, link_peer, meets, with_gone, with_link}
+use Rattle.pg_run.specs.pg_pieces.Done.{Done, idle}
+use Rattle.pg_run.specs.pg_server.declared.input.Input.TheVariants as input
+use Rattle.pg_run.specs.pg_server.Local.{Effect, closed, effect, finished, receive}
+use Rattle.pg_run.specs.pg_server.pg_transfer.Harbinger.{harbinger, heard, heard_along}
+use Rattle.pg_run.specs.theory_flood_pieces.Whole.{IsWhole}
+use Rattle.pg_run.specs.Bodies.{FirstHarbingersAsk, HearsFirst, IsOfLink, SendsFirst}
+use Rattle.pg_run.specs.Laws.{store_after}
+use Rattle.pg_run.specs.Run.{Step, Taking, World, next, run, start}
+use Rattle.pg_run.proofs.theory_flood.Flood.{after_itself}
+use Rattle.pg_run.proofs.Frame.{acts_is, next_is, run_more}
+use Rattle.pg_run.proofs.Ticks.{IsTidy}
 use Rattle.law_ticks.specs.Given.{TidinessIsGiven}
 use Rattle.law_ticks.proofs.Ticks.{tidy}
 use Rattle.law_bodies.proofs.First.{Leaving, closed_first, no_keys, sends_first}

@@ -2,24 +2,24 @@
 use Rattle.std.proofs.Common.{[], ℕ, ◌≡◌, ◌==◌, ◌&&◌, ◌||◌, Bool, true, false, cond, get_or, List, ◌∷◌, filter, Option, None, Some, refl, sym, subst, All}
 use Rattle.std.proofs.lemmas.Bool.{and_parts, eqb-true}
 use Rattle.std.proofs.lemmas.List.Elements.{All-cons, All-head, All-nil, All-tail}
-use Rattle.law_ticks.specs.pg_run.pg_base.declared.id.FileId.{FileId}
-use Rattle.law_ticks.specs.pg_run.pg_base.Id.{is_same_file}
-use Rattle.law_ticks.specs.pg_run.pg_edges.declared.edge.Edge.{Edge}
-use Rattle.law_ticks.specs.pg_run.pg_edges.declared.key.Key.{Key}
-use Rattle.law_ticks.specs.pg_run.pg_edges.Edges.{edge_to}
-use Rattle.law_ticks.specs.pg_run.pg_edges.Keys.{tag_in}
-use Rattle.law_ticks.specs.pg_run.pg_entries.declared.cell.Cell.{Cell}
-use Rattle.law_ticks.specs.pg_run.pg_msg.declared.message.Sent.{Sent}
-use Rattle.law_ticks.specs.pg_run.pg_replica.declared.replica.Replica.{Replica}
-use Rattle.law_ticks.specs.pg_run.pg_store.declared.store.Store.{Store}
-use Rattle.law_ticks.specs.pg_run.pg_store.Cells.{cell_at}
-use Rattle.law_ticks.specs.pg_run.pg_store.Store.{replica_at}
-use Rattle.law_ticks.specs.pg_run.pg_cells.Sending.{Wanted, cell_to, cell_under, cells_where, edge_cells, is_chosen, key_cell, replica_cells, waits}
-use Rattle.law_ticks.specs.pg_run.theory_flood_pieces.Whole.{AreEdges, IsEdge, IsWhole}
-use Rattle.law_ticks.specs.pg_run.Bodies.{IsOfLink}
-use Rattle.law_ticks.proofs.pg_run.pg_base.Orders.{is_same_file-true}
-use Rattle.law_ticks.proofs.pg_run.theory_flood_pieces.Choices.{All-flat_map, decided}
-use Rattle.law_ticks.proofs.pg_run.theory_flood_pieces.Found.{edges_found, entries_known, keys_found}
+use Rattle.pg_run.specs.pg_base.declared.id.FileId.{FileId}
+use Rattle.pg_run.specs.pg_base.Id.{is_same_file}
+use Rattle.pg_run.specs.pg_edges.declared.edge.Edge.{Edge}
+use Rattle.pg_run.specs.pg_edges.declared.key.Key.{Key}
+use Rattle.pg_run.specs.pg_edges.Edges.{edge_to}
+use Rattle.pg_run.specs.pg_edges.Keys.{tag_in}
+use Rattle.pg_run.specs.pg_entries.declared.cell.Cell.{Cell}
+use Rattle.pg_run.specs.pg_msg.declared.message.Sent.{Sent}
+use Rattle.pg_run.specs.pg_replica.declared.replica.Replica.{Replica}
+use Rattle.pg_run.specs.pg_store.declared.store.Store.{Store}
+use Rattle.pg_run.specs.pg_store.Cells.{cell_at}
+use Rattle.pg_run.specs.pg_store.Store.{replica_at}
+use Rattle.pg_run.specs.pg_cells.Sending.{Wanted, cell_to, cell_under, cells_where, edge_cells, is_chosen, key_cell, replica_cells, waits}
+use Rattle.pg_run.specs.theory_flood_pieces.Whole.{AreEdges, IsEdge, IsWhole}
+use Rattle.pg_run.specs.Bodies.{IsOfLink}
+use Rattle.pg_run.proofs.pg_base.Orders.{is_same_file-true}
+use Rattle.pg_run.proofs.theory_flood_pieces.Choices.{All-flat_map, decided}
+use Rattle.pg_run.proofs.theory_flood_pieces.Found.{edges_found, entries_known, keys_found}
 
 -- ---- what passes a test
 

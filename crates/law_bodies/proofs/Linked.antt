@@ -1,14 +1,14 @@
 -- What a link to a birth of a peer leaves as it was: all but one replica's edges.
 use Rattle.std.proofs.Common.{ℕ, ◌≡◌, false, length, Option, None, Some, refl}
-use Rattle.law_ticks.specs.pg_run.pg_base.declared.id.FileId.{FileId}
-use Rattle.law_ticks.specs.pg_run.pg_base.Id.{is_same_file}
-use Rattle.law_ticks.specs.pg_run.pg_replica.declared.replica.Replica.{Replica}
-use Rattle.law_ticks.specs.pg_run.pg_replica.Replica.{with_link}
-use Rattle.law_ticks.specs.pg_run.pg_replica.Replicas.{replicas_linked}
-use Rattle.law_ticks.specs.pg_run.pg_store.declared.store.Store.{Store}
-use Rattle.law_ticks.specs.pg_run.pg_store.Links.{keys, put_link}
-use Rattle.law_ticks.specs.pg_run.pg_store.Store.{content_of, replica_at, with_drawn}
-use Rattle.law_ticks.proofs.pg_run.theory_flood_pieces.Stores.{content_by, replica_elsewhere, replica_here}
+use Rattle.pg_run.specs.pg_base.declared.id.FileId.{FileId}
+use Rattle.pg_run.specs.pg_base.Id.{is_same_file}
+use Rattle.pg_run.specs.pg_replica.declared.replica.Replica.{Replica}
+use Rattle.pg_run.specs.pg_replica.Replica.{with_link}
+use Rattle.pg_run.specs.pg_replica.Replicas.{replicas_linked}
+use Rattle.pg_run.specs.pg_store.declared.store.Store.{Store}
+use Rattle.pg_run.specs.pg_store.Links.{keys, put_link}
+use Rattle.pg_run.specs.pg_store.Store.{content_of, replica_at, with_drawn}
+use Rattle.pg_run.proofs.theory_flood_pieces.Stores.{content_by, replica_elsewhere, replica_here}
 
 -- a store as another, but for the edges of one replica
 pub record IsBeside (a b : Store) (file : FileId) : Type 0 where

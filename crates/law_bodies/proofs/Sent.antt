@@ -2,30 +2,30 @@
 use Rattle.std.proofs.Common.{ℕ, ◌≡◌, ◌⊎◌, true, inl, inr, refl, All}
 use Rattle.std.specs.List.{flat_map}
 use Rattle.std.proofs.lemmas.List.Elements.{All-append, All-nil}
-use Rattle.law_ticks.specs.pg_run.pg_base.declared.id.FileId.{FileId}
-use Rattle.law_ticks.specs.pg_run.pg_edges.declared.edge.Edge.{Edge}
-use Rattle.law_ticks.specs.pg_run.pg_msg.declared.message.Ends.{Ends}
-use Rattle.law_ticks.specs.pg_run.pg_msg.declared.message.Message.{Message}
-use Rattle.law_ticks.specs.pg_run.pg_msg.declared.message.Message.TheVariants as message
-use Rattle.law_ticks.specs.pg_run.pg_msg.declared.message.Packet.{Packet}
-use Rattle.law_ticks.specs.pg_run.pg_msg.declared.message.Sent.{Sent}
-use Rattle.law_ticks.specs.pg_run.pg_msg.declared.message.Wanted.{Wanted}
-use Rattle.law_ticks.specs.pg_run.pg_msg.Work.{new_work}
-use Rattle.law_ticks.specs.pg_run.pg_replica.declared.replica.Replica.{Replica}
-use Rattle.law_ticks.specs.pg_run.pg_server.declared.input.Input.{Input}
-use Rattle.law_ticks.specs.pg_run.pg_server.declared.input.Input.TheVariants as input
-use Rattle.law_ticks.specs.pg_run.pg_server.Local.{effect, first_effect, ticked, without_sources}
-use Rattle.law_ticks.specs.pg_run.pg_store.declared.store.Store.{Store}
-use Rattle.law_ticks.specs.pg_run.pg_store.Seen.{server_of}
-use Rattle.law_ticks.specs.pg_run.pg_pieces.Done.{Done}
-use Rattle.law_ticks.specs.pg_run.pg_cells.Sending.{Wanted as Chosen, cells_where, is_any, is_chosen}
-use Rattle.law_ticks.specs.pg_run.pg_cells.Ticks.{tick}
-use Rattle.law_ticks.specs.pg_run.pg_intentions.Requests.{ask_all, asks}
-use Rattle.law_ticks.specs.pg_run.Bodies.{IsOfBody}
-use Rattle.law_ticks.proofs.pg_run.Bags.{All-every}
-use Rattle.law_ticks.proofs.pg_run.Event.{AskHas, CellHas, Comes, all_sent, asks_by_have, asks_have, cells_have, end_of, first_has}
-use Rattle.law_ticks.proofs.pg_run.Sends.{AnswersHave, is_plain, received_fine, tick_walk_fine}
-use Rattle.law_ticks.proofs.pg_run.SendsCalls.{call_fine}
+use Rattle.pg_run.specs.pg_base.declared.id.FileId.{FileId}
+use Rattle.pg_run.specs.pg_edges.declared.edge.Edge.{Edge}
+use Rattle.pg_run.specs.pg_msg.declared.message.Ends.{Ends}
+use Rattle.pg_run.specs.pg_msg.declared.message.Message.{Message}
+use Rattle.pg_run.specs.pg_msg.declared.message.Message.TheVariants as message
+use Rattle.pg_run.specs.pg_msg.declared.message.Packet.{Packet}
+use Rattle.pg_run.specs.pg_msg.declared.message.Sent.{Sent}
+use Rattle.pg_run.specs.pg_msg.declared.message.Wanted.{Wanted}
+use Rattle.pg_run.specs.pg_msg.Work.{new_work}
+use Rattle.pg_run.specs.pg_replica.declared.replica.Replica.{Replica}
+use Rattle.pg_run.specs.pg_server.declared.input.Input.{Input}
+use Rattle.pg_run.specs.pg_server.declared.input.Input.TheVariants as input
+use Rattle.pg_run.specs.pg_server.Local.{effect, first_effect, ticked, without_sources}
+use Rattle.pg_run.specs.pg_store.declared.store.Store.{Store}
+use Rattle.pg_run.specs.pg_store.Seen.{server_of}
+use Rattle.pg_run.specs.pg_pieces.Done.{Done}
+use Rattle.pg_run.specs.pg_cells.Sending.{Wanted as Chosen, cells_where, is_any, is_chosen}
+use Rattle.pg_run.specs.pg_cells.Ticks.{tick}
+use Rattle.pg_run.specs.pg_intentions.Requests.{ask_all, asks}
+use Rattle.pg_run.specs.Bodies.{IsOfBody}
+use Rattle.pg_run.proofs.Bags.{All-every}
+use Rattle.pg_run.proofs.Event.{AskHas, CellHas, Comes, all_sent, asks_by_have, asks_have, cells_have, end_of, first_has}
+use Rattle.pg_run.proofs.Sends.{AnswersHave, is_plain, received_fine, tick_walk_fine}
+use Rattle.pg_run.proofs.SendsCalls.{call_fine}
 use Rattle.law_bodies.proofs.Short.{IsShort, head_of_stamp, plain_short, request_short, told_short}
 
 -- a server that holds a takes this

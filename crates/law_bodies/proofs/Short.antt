@@ -5,27 +5,27 @@ use Rattle.std.proofs.lemmas.Bool.{false≢true}
 use Rattle.std.proofs.lemmas.Map.Views.{tells_apart}
 use Rattle.std.proofs.lemmas.Option.{none-some, same_Some}
 use Rattle.std.specs.Ordering.{eq_by_cmp}
-use Rattle.law_ticks.proofs.pg_run.pg_base.Orders.{stamp_exact}
-use Rattle.law_ticks.specs.pg_run.pg_base.declared.stamp.Stamp.{Stamp}
-use Rattle.law_ticks.specs.pg_run.pg_base.Stamp.{stamp_cmp}
-use Rattle.law_ticks.specs.pg_run.pg_base.Version.{VersionValue}
-use Rattle.law_ticks.specs.pg_run.pg_content.Content.{head_at}
-use Rattle.law_ticks.specs.pg_run.pg_entries.declared.cell.Cell.{Cell}
-use Rattle.law_ticks.specs.pg_run.pg_entries.declared.cell.Cell.TheVariants as cell
-use Rattle.law_ticks.specs.pg_run.pg_entries.declared.entry.Entry.{Entry}
-use Rattle.law_ticks.specs.pg_run.pg_intent.declared.intent.Intent.{Intent}
-use Rattle.law_ticks.specs.pg_run.pg_intent.declared.intent.Intent.TheVariants as intent
-use Rattle.law_ticks.specs.pg_run.pg_msg.declared.message.Ends.{Ends}
-use Rattle.law_ticks.specs.pg_run.pg_msg.declared.message.Message.{Message}
-use Rattle.law_ticks.specs.pg_run.pg_msg.declared.message.Message.TheVariants as message
-use Rattle.law_ticks.specs.pg_run.pg_base.declared.id.FileId.{FileId}
-use Rattle.law_ticks.specs.pg_run.pg_names.declared.attributes.Attributes.{Attributes}
-use Rattle.law_ticks.specs.pg_run.pg_names.Names.{cell_at, own_at}
-use Rattle.law_ticks.specs.pg_run.pg_store.declared.store.Store.{Store}
-use Rattle.law_ticks.specs.pg_run.pg_cells.Sending.{told_as}
-use Rattle.law_ticks.specs.pg_run.pg_intentions.Requests.{confirm_message, leave_message, request}
-use Rattle.law_ticks.proofs.pg_run.theory_flood_pieces.Choices.{decided}
-use Rattle.law_ticks.proofs.pg_run.Sends.{is_plain}
+use Rattle.pg_run.proofs.pg_base.Orders.{stamp_exact}
+use Rattle.pg_run.specs.pg_base.declared.stamp.Stamp.{Stamp}
+use Rattle.pg_run.specs.pg_base.Stamp.{stamp_cmp}
+use Rattle.pg_run.specs.pg_base.Version.{VersionValue}
+use Rattle.pg_run.specs.pg_content.Content.{head_at}
+use Rattle.pg_run.specs.pg_entries.declared.cell.Cell.{Cell}
+use Rattle.pg_run.specs.pg_entries.declared.cell.Cell.TheVariants as cell
+use Rattle.pg_run.specs.pg_entries.declared.entry.Entry.{Entry}
+use Rattle.pg_run.specs.pg_intent.declared.intent.Intent.{Intent}
+use Rattle.pg_run.specs.pg_intent.declared.intent.Intent.TheVariants as intent
+use Rattle.pg_run.specs.pg_msg.declared.message.Ends.{Ends}
+use Rattle.pg_run.specs.pg_msg.declared.message.Message.{Message}
+use Rattle.pg_run.specs.pg_msg.declared.message.Message.TheVariants as message
+use Rattle.pg_run.specs.pg_base.declared.id.FileId.{FileId}
+use Rattle.pg_run.specs.pg_names.declared.attributes.Attributes.{Attributes}
+use Rattle.pg_run.specs.pg_names.Names.{cell_at, own_at}
+use Rattle.pg_run.specs.pg_store.declared.store.Store.{Store}
+use Rattle.pg_run.specs.pg_cells.Sending.{told_as}
+use Rattle.pg_run.specs.pg_intentions.Requests.{confirm_message, leave_message, request}
+use Rattle.pg_run.proofs.theory_flood_pieces.Choices.{decided}
+use Rattle.pg_run.proofs.Sends.{is_plain}
 
 -- a version that is told whole has at most 1,024 bytes; parts of bodies are none
 abbrev pub is_short : Message → Bool

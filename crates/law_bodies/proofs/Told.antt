@@ -3,22 +3,22 @@ use Rattle.std.proofs.Common.{[], ℕ, ◌≡◌, ◌<◌, ◌++◌, ◌∷◌, 
 use Rattle.std.specs.Prelude.{Contains, nat_lt}
 use Rattle.std.proofs.lemmas.Bool.{false≢true, ltb-false}
 use Rattle.std.proofs.lemmas.List.Elements.{All-contains, Contains-append_left}
-use Rattle.law_ticks.specs.pg_run.pg_base.Version.{VersionValue}
-use Rattle.law_ticks.specs.pg_run.pg_entries.declared.cell.Cell.TheVariants as cell
-use Rattle.law_ticks.specs.pg_run.pg_event.declared.event.Event.{Event}
-use Rattle.law_ticks.specs.pg_run.pg_msg.declared.message.Message.{Message}
-use Rattle.law_ticks.specs.pg_run.pg_msg.declared.message.Message.TheVariants as message
-use Rattle.law_ticks.specs.pg_run.pg_msg.declared.message.Packet.{Packet}
-use Rattle.law_ticks.specs.pg_run.pg_msg.declared.message.Sent.{Sent}
-use Rattle.law_ticks.specs.pg_run.pg_server.declared.input.Input.{Input}
-use Rattle.law_ticks.specs.pg_run.pg_server.declared.input.Input.TheVariants as input
-use Rattle.law_ticks.specs.pg_run.pg_server.Local.{effect}
-use Rattle.law_ticks.specs.pg_run.Bodies.{AnswersWant, BodiesAnswerWants, body_bytes}
-use Rattle.law_ticks.specs.pg_run.Histories.{TellsOfHistory}
-use Rattle.law_ticks.specs.pg_run.Journal.{mail}
-use Rattle.law_ticks.specs.pg_run.Run.{Step, Taking, World, next, run, start, taking_in}
-use Rattle.law_ticks.specs.pg_run.pg_store.Seen.{server_of}
-use Rattle.law_ticks.proofs.pg_run.Frame.{IsFramed, framed, run_more}
+use Rattle.pg_run.specs.pg_base.Version.{VersionValue}
+use Rattle.pg_run.specs.pg_entries.declared.cell.Cell.TheVariants as cell
+use Rattle.pg_run.specs.pg_event.declared.event.Event.{Event}
+use Rattle.pg_run.specs.pg_msg.declared.message.Message.{Message}
+use Rattle.pg_run.specs.pg_msg.declared.message.Message.TheVariants as message
+use Rattle.pg_run.specs.pg_msg.declared.message.Packet.{Packet}
+use Rattle.pg_run.specs.pg_msg.declared.message.Sent.{Sent}
+use Rattle.pg_run.specs.pg_server.declared.input.Input.{Input}
+use Rattle.pg_run.specs.pg_server.declared.input.Input.TheVariants as input
+use Rattle.pg_run.specs.pg_server.Local.{effect}
+use Rattle.pg_run.specs.Bodies.{AnswersWant, BodiesAnswerWants, body_bytes}
+use Rattle.pg_run.specs.Histories.{TellsOfHistory}
+use Rattle.pg_run.specs.Journal.{mail}
+use Rattle.pg_run.specs.Run.{Step, Taking, World, next, run, start, taking_in}
+use Rattle.pg_run.specs.pg_store.Seen.{server_of}
+use Rattle.pg_run.proofs.Frame.{IsFramed, framed, run_more}
 use Rattle.law_bodies.proofs.Short.{IsShort}
 use Rattle.law_bodies.proofs.Sent.{Q, all_short}
 use Rattle.law_bodies.specs.Premises.{StandOn}

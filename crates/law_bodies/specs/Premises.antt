@@ -1,9 +1,9 @@
 -- What the law of bodies stands on.
 use Rattle.std.specs.Prelude.{ℕ, List}
-use Rattle.law_ticks.specs.pg_run.pg_event.declared.event.Event.{Event}
-use Rattle.law_ticks.specs.pg_run.theory_flood_pieces.Whole.{IsWhole}
-use Rattle.law_ticks.specs.pg_run.Histories.{CarriesHistory}
-use Rattle.law_ticks.specs.pg_run.Laws.{AtEach, store_after}
+use Rattle.pg_run.specs.pg_event.declared.event.Event.{Event}
+use Rattle.pg_run.specs.theory_flood_pieces.Whole.{IsWhole}
+use Rattle.pg_run.specs.Histories.{CarriesHistory}
+use Rattle.pg_run.specs.Laws.{AtEach, store_after}
 
 -- whole: each server is whole
 -- carried: what messages tell of versions is so

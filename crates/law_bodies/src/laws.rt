@@ -3,7 +3,7 @@
 ghost use Rattle.std.specs.Prelude.{ℕ};
 ghost use Rattle.law_bodies.specs.Premises.{StandOn};
 ghost use Rattle.law_ticks.specs.Given.{TidinessIsGiven};
-ghost use Rattle.law_ticks.specs.pg_run.Bodies.{BodiesAnswerWants, FirstHarbingersAsk};
+ghost use Rattle.pg_run.specs.Bodies.{BodiesAnswerWants, FirstHarbingersAsk};
 
 /// A message that holds more than 1,024 bytes of a version's body is sent where a Want for that
 /// version comes, and goes to who sent the Want.

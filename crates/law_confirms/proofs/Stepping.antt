@@ -4,20 +4,20 @@ use Rattle.std.proofs.lemmas.Bool.{and_parts, false≢true}
 use Rattle.theory_listing.specs.Protocol.{Lists}
 use Rattle.theory_listing_house.specs.Listing.{cell_place}
 use Rattle.theory_listing_house.proofs.Seen.{cell_is}
-use Rattle.law_listings.specs.pg_base.declared.id.FileId.{FileId}
-use Rattle.law_listings.specs.pg_base.Id.{is_same_file}
-use Rattle.law_listings.proofs.pg_base.Orders.{is_same_file-refl, is_same_file-true}
-use Rattle.law_listings.specs.pg_entries.declared.entry.Entry.{Entry}
-use Rattle.law_listings.specs.pg_event.declared.event.Event.{Event}
-use Rattle.law_listings.specs.pg_names.Names.{cell_at, is_dir}
-use Rattle.law_listings.specs.pg_register.declared.place.Place.{Place}
-use Rattle.law_listings.specs.pg_register.Place.{root}
-use Rattle.law_listings.specs.pg_server.declared.input.Input.{Input}
-use Rattle.law_listings.specs.pg_server.Local.{effect}
-use Rattle.law_listings.specs.pg_store.declared.store.Store.{Store}
-use Rattle.law_listings.specs.pg_store.Seen.{view_of}
-use Rattle.law_listings.specs.pg_run.Run.{Step, Taking, next, run}
-use Rattle.law_listings.proofs.pg_run.Frame.{acts_is, next_is}
+use Rattle.pg_run.specs.pg_base.declared.id.FileId.{FileId}
+use Rattle.pg_run.specs.pg_base.Id.{is_same_file}
+use Rattle.pg_run.proofs.pg_base.Orders.{is_same_file-refl, is_same_file-true}
+use Rattle.pg_run.specs.pg_entries.declared.entry.Entry.{Entry}
+use Rattle.pg_run.specs.pg_event.declared.event.Event.{Event}
+use Rattle.pg_run.specs.pg_names.Names.{cell_at, is_dir}
+use Rattle.pg_run.specs.pg_register.declared.place.Place.{Place}
+use Rattle.pg_run.specs.pg_register.Place.{root}
+use Rattle.pg_run.specs.pg_server.declared.input.Input.{Input}
+use Rattle.pg_run.specs.pg_server.Local.{effect}
+use Rattle.pg_run.specs.pg_store.declared.store.Store.{Store}
+use Rattle.pg_run.specs.pg_store.Seen.{view_of}
+use Rattle.pg_run.specs.Run.{Step, Taking, next, run}
+use Rattle.pg_run.proofs.Frame.{acts_is, next_is}
 use Rattle.law_listings.specs.Laws.{ListingsStandOn}
 use Rattle.law_listings.specs.Letters.{letters, of_stores}
 use Rattle.law_listings.proofs.Events.{IsStepBy}

@@ -4,14 +4,14 @@ use Rattle.theory_listing.specs.Rule.{IsJustTold}
 use Rattle.theory_listing.specs.World.{Way}
 use Rattle.theory_listing.specs.World.Saying.{Other, Told}
 use Rattle.theory_listing.specs.World.Way.{PlaceIs, SureCell, Tell}
-use Rattle.law_listings.specs.pg_base.declared.id.FileId.{FileId}
-use Rattle.law_listings.specs.pg_entries.declared.cell.Cell.TheVariants as cells
-use Rattle.law_listings.specs.pg_entries.declared.entry.Entry.{Entry}
-use Rattle.law_listings.specs.pg_register.declared.place.Place.{Place}
-use Rattle.law_listings.specs.pg_server.declared.input.Input.{Input}
-use Rattle.law_listings.specs.pg_store.declared.store.Store.{Store}
-use Rattle.law_listings.specs.pg_run.pg_msg.declared.message.Message.{Message}
-use Rattle.law_listings.specs.pg_run.pg_msg.declared.message.Message.TheVariants as message
+use Rattle.pg_run.specs.pg_base.declared.id.FileId.{FileId}
+use Rattle.pg_run.specs.pg_entries.declared.cell.Cell.TheVariants as cells
+use Rattle.pg_run.specs.pg_entries.declared.entry.Entry.{Entry}
+use Rattle.pg_run.specs.pg_register.declared.place.Place.{Place}
+use Rattle.pg_run.specs.pg_server.declared.input.Input.{Input}
+use Rattle.pg_run.specs.pg_store.declared.store.Store.{Store}
+use Rattle.pg_run.specs.pg_msg.declared.message.Message.{Message}
+use Rattle.pg_run.specs.pg_msg.declared.message.Message.TheVariants as message
 use Rattle.law_listings.specs.Letters.{Letter, Saying, of_stores, says}
 use Rattle.law_listings.proofs.Events.{IsLetterOf}
 use Rattle.law_confirms.specs.Confirms.{TellsPlace, WasTold}

@@ -1,25 +1,25 @@
 -- When a Confirm begins, and how long it stands.
 use Rattle.std.specs.Prelude.{ℕ, ◌≡◌, ◌<◌, ◌⊎◌, true, false, List, Some}
-use Rattle.law_listings.specs.pg_base.declared.id.FileId.{FileId}
-use Rattle.law_listings.specs.pg_base.Id.{is_same_file}
-use Rattle.law_listings.specs.pg_entries.declared.cell.Cell.TheVariants as cells
-use Rattle.law_listings.specs.pg_entries.declared.entry.Entry.{Entry}
-use Rattle.law_listings.specs.pg_entries.Entry.{is_listed}
-use Rattle.law_listings.specs.pg_event.declared.event.Event.{Event}
-use Rattle.law_listings.specs.pg_intent.declared.key.IntentKey.TheVariants as key
-use Rattle.law_listings.specs.pg_intent.Intents.{stands}
-use Rattle.law_listings.specs.pg_names.Names.{cell_at, is_dir}
-use Rattle.law_listings.specs.pg_register.declared.place.Place.{Place}
-use Rattle.law_listings.specs.pg_register.Place.{root}
-use Rattle.law_listings.specs.pg_server.declared.input.Input.{Input}
-use Rattle.law_listings.specs.pg_server.declared.input.Input.TheVariants as input
-use Rattle.law_listings.specs.pg_store.declared.store.Store.{Store}
-use Rattle.law_listings.specs.pg_store.Seen.{view_of}
-use Rattle.law_listings.specs.pg_store.Store.{is_held}
-use Rattle.law_listings.specs.pg_run.pg_msg.declared.message.Message.{Message}
-use Rattle.law_listings.specs.pg_run.pg_msg.declared.message.Message.TheVariants as message
-use Rattle.law_listings.specs.pg_run.Laws.{TakesIn}
-use Rattle.law_listings.specs.pg_run.Run.{next, run}
+use Rattle.pg_run.specs.pg_base.declared.id.FileId.{FileId}
+use Rattle.pg_run.specs.pg_base.Id.{is_same_file}
+use Rattle.pg_run.specs.pg_entries.declared.cell.Cell.TheVariants as cells
+use Rattle.pg_run.specs.pg_entries.declared.entry.Entry.{Entry}
+use Rattle.pg_run.specs.pg_entries.Entry.{is_listed}
+use Rattle.pg_run.specs.pg_event.declared.event.Event.{Event}
+use Rattle.pg_run.specs.pg_intent.declared.key.IntentKey.TheVariants as key
+use Rattle.pg_run.specs.pg_intent.Intents.{stands}
+use Rattle.pg_run.specs.pg_names.Names.{cell_at, is_dir}
+use Rattle.pg_run.specs.pg_register.declared.place.Place.{Place}
+use Rattle.pg_run.specs.pg_register.Place.{root}
+use Rattle.pg_run.specs.pg_server.declared.input.Input.{Input}
+use Rattle.pg_run.specs.pg_server.declared.input.Input.TheVariants as input
+use Rattle.pg_run.specs.pg_store.declared.store.Store.{Store}
+use Rattle.pg_run.specs.pg_store.Seen.{view_of}
+use Rattle.pg_run.specs.pg_store.Store.{is_held}
+use Rattle.pg_run.specs.pg_msg.declared.message.Message.{Message}
+use Rattle.pg_run.specs.pg_msg.declared.message.Message.TheVariants as message
+use Rattle.pg_run.specs.Laws.{TakesIn}
+use Rattle.pg_run.specs.Run.{next, run}
 
 -- a directory lists a child by this cell, and the child is not held beside it
 pub record IsListedAway (b : Store) (dir child : FileId) (e : Entry) : Type 0 where

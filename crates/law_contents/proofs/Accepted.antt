@@ -2,17 +2,17 @@
 -- at.
 use Rattle.std.proofs.Common.{ℕ, ◌≡◌, Bool, true, false, cond, not, Some, refl}
 use Rattle.std.proofs.lemmas.Bool.{and_parts}
-use Rattle.law_order.specs.pg_msg.declared.message.Ends.{Ends}
-use Rattle.law_order.specs.pg_msg.declared.work.Work.{Work}
-use Rattle.law_order.specs.pg_pieces.declared.accepting.EdgeUse.{EdgeUse}
-use Rattle.law_order.specs.pg_pieces.declared.accepting.EdgeUse.TheVariants as manner
-use Rattle.law_order.specs.pg_pieces.Accepting.{accept, is_accepted, is_current, meets}
-use Rattle.law_order.specs.pg_pieces.Done.{Done, idle}
-use Rattle.law_order.specs.pg_replica.declared.replica.Replica.{Replica}
-use Rattle.law_order.specs.pg_store.declared.store.Store.{Store}
-use Rattle.law_order.specs.pg_store.Births.{has_birth}
-use Rattle.law_order.specs.pg_store.Links.{knows_later}
-use Rattle.law_order.specs.pg_store.Store.{replica_at}
+use Rattle.pg_run.specs.pg_msg.declared.message.Ends.{Ends}
+use Rattle.pg_run.specs.pg_msg.declared.work.Work.{Work}
+use Rattle.pg_run.specs.pg_pieces.declared.accepting.EdgeUse.{EdgeUse}
+use Rattle.pg_run.specs.pg_pieces.declared.accepting.EdgeUse.TheVariants as manner
+use Rattle.pg_run.specs.pg_pieces.Accepting.{accept, is_accepted, is_current, meets}
+use Rattle.pg_run.specs.pg_pieces.Done.{Done, idle}
+use Rattle.pg_run.specs.pg_replica.declared.replica.Replica.{Replica}
+use Rattle.pg_run.specs.pg_store.declared.store.Store.{Store}
+use Rattle.pg_run.specs.pg_store.Births.{has_birth}
+use Rattle.pg_run.specs.pg_store.Links.{knows_later}
+use Rattle.pg_run.specs.pg_store.Store.{replica_at}
 use Rattle.law_contents.proofs.Taken.{born_there}
 
 pub accepted_there : (a : Store) (from : ℕ) (m : EdgeUse) (ends : Ends)

@@ -2,19 +2,19 @@
 use Rattle.std.proofs.Common.{◌≡◌, true, List, [], ◌∷◌, None, Some, refl, sym, ap, subst, ◌∙◌, inr}
 use Rattle.std.specs.List.{filter}
 use Rattle.std.proofs.lemmas.Bool.{cond_both}
-use Rattle.law_order.specs.pg_announced.Announced.{NotesValue}
-use Rattle.law_order.specs.pg_base.declared.id.FileId.{FileId}
-use Rattle.law_order.specs.pg_base.declared.stamp.Stamp.{Stamp}
-use Rattle.law_order.specs.pg_base.Id.{is_same_file}
-use Rattle.law_order.specs.pg_content.Content.{Among}
-use Rattle.law_order.specs.pg_content.History.{Made}
-use Rattle.law_order.proofs.pg_content.Members.{among_filter, among_map, filter_among, map_among}
-use Rattle.law_order.specs.pg_run.Asking.{Asked, nobody_asked}
-use Rattle.law_order.specs.pg_run.Journal.{Born, is_within, made_for, made_of, with_ancestors}
-use Rattle.law_order.specs.pg_store.declared.store.Store.{Store}
-use Rattle.law_order.specs.theory_bodies.Asked.{AreAgreed, Asking}
-use Rattle.law_order.specs.theory_bodies.Protocol.{Note}
-use Rattle.law_order.proofs.theory_bodies.Agreeing.{agreed}
+use Rattle.pg_run.specs.pg_announced.Announced.{NotesValue}
+use Rattle.pg_run.specs.pg_base.declared.id.FileId.{FileId}
+use Rattle.pg_run.specs.pg_base.declared.stamp.Stamp.{Stamp}
+use Rattle.pg_run.specs.pg_base.Id.{is_same_file}
+use Rattle.pg_run.specs.pg_content.Content.{Among}
+use Rattle.pg_run.specs.pg_content.History.{Made}
+use Rattle.pg_run.proofs.pg_content.Members.{among_filter, among_map, filter_among, map_among}
+use Rattle.pg_run.specs.Asking.{Asked, nobody_asked}
+use Rattle.pg_run.specs.Journal.{Born, is_within, made_for, made_of, with_ancestors}
+use Rattle.pg_run.specs.pg_store.declared.store.Store.{Store}
+use Rattle.pg_run.specs.theory_bodies.Asked.{AreAgreed, Asking}
+use Rattle.pg_run.specs.theory_bodies.Protocol.{Note}
+use Rattle.pg_run.proofs.theory_bodies.Agreeing.{agreed}
 use Rattle.law_contents.proofs.NotesCome.{noted_of}
 use Rattle.law_contents.proofs.Servers.{Came}
 use Rattle.law_contents.proofs.Sets.{stamp_of_made, within_by, within_later}

@@ -1,33 +1,33 @@
 -- Behind any input what a server notes agrees with whom it asked.
 use Rattle.std.proofs.Common.{ℕ, ◌≡◌, ◌⊎◌, ◌++◌, ◌||◌, Bool, true, false, cond, List, [], ◌∷◌, drop, length, Option, None, Some, inl, inr, refl, sym, ap, subst, ◌∙◌}
 use Rattle.std.proofs.lemmas.Bool.{and_from, false≢true, or_right}
-use Rattle.law_order.specs.pg_base.declared.head.Head.{Head}
-use Rattle.law_order.specs.pg_base.declared.id.FileId.{FileId}
-use Rattle.law_order.specs.pg_base.declared.policy.Policy.{Policy}
-use Rattle.law_order.specs.pg_base.declared.stamp.Stamp.{Stamp}
-use Rattle.law_order.proofs.pg_names.Lookups.{apart_back}
-use Rattle.law_order.specs.pg_content.Content.{Among}
-use Rattle.law_order.specs.pg_content.History.{IsHistory, Made}
-use Rattle.law_order.specs.pg_msg.declared.message.Message.{Message}
-use Rattle.law_order.specs.pg_msg.declared.message.Message.TheVariants as message
-use Rattle.law_order.specs.pg_msg.Work.{new_work}
-use Rattle.law_order.specs.pg_run.Asked.{asked_behind, ends_asking, ends_with, goes as is_gone}
-use Rattle.law_order.specs.pg_run.Asking.{Asked, last_wanted}
-use Rattle.law_order.specs.pg_run.Carried.{gone_by, gone_in}
-use Rattle.law_order.specs.pg_run.Journal.{Born, made_for, made_of, with_ancestors}
-use Rattle.law_order.specs.pg_run.Passed.{passed, passed_with}
-use Rattle.law_order.specs.pg_run.Run.{brought, made_behind, removed_then, took_after, took_first}
-use Rattle.law_order.specs.pg_run.Took.{Take, stamps_taken, without_gone}
-use Rattle.law_order.specs.pg_server.declared.input.Input.{Input}
-use Rattle.law_order.specs.pg_server.declared.input.Input.TheVariants as input
-use Rattle.law_order.specs.pg_server.Local.{Effect, closed, effect, finished, first_effect, is_heard, receive, reply_to, takes_effect}
-use Rattle.law_order.specs.pg_store.declared.store.Store.{Store}
-use Rattle.law_order.specs.pg_pieces.Done.{Done, idle}
-use Rattle.law_order.specs.theory_bodies.Asked.{AreAgreed, AskStep, Asking, asking_of}
-use Rattle.law_order.specs.theory_bodies.Book.{IsHeadOf}
-use Rattle.law_order.specs.theory_bodies.Protocol.{Note}
-use Rattle.law_order.proofs.theory_bodies.Agreeing.{agreed}
-use Rattle.law_order.proofs.theory_flood_pieces.Choices.{chosen}
+use Rattle.pg_run.specs.pg_base.declared.head.Head.{Head}
+use Rattle.pg_run.specs.pg_base.declared.id.FileId.{FileId}
+use Rattle.pg_run.specs.pg_base.declared.policy.Policy.{Policy}
+use Rattle.pg_run.specs.pg_base.declared.stamp.Stamp.{Stamp}
+use Rattle.pg_run.proofs.pg_names.Lookups.{apart_back}
+use Rattle.pg_run.specs.pg_content.Content.{Among}
+use Rattle.pg_run.specs.pg_content.History.{IsHistory, Made}
+use Rattle.pg_run.specs.pg_msg.declared.message.Message.{Message}
+use Rattle.pg_run.specs.pg_msg.declared.message.Message.TheVariants as message
+use Rattle.pg_run.specs.pg_msg.Work.{new_work}
+use Rattle.pg_run.specs.Asked.{asked_behind, ends_asking, ends_with, goes as is_gone}
+use Rattle.pg_run.specs.Asking.{Asked, last_wanted}
+use Rattle.pg_run.specs.Carried.{gone_by, gone_in}
+use Rattle.pg_run.specs.Journal.{Born, made_for, made_of, with_ancestors}
+use Rattle.pg_run.specs.Passed.{passed, passed_with}
+use Rattle.pg_run.specs.Run.{brought, made_behind, removed_then, took_after, took_first}
+use Rattle.pg_run.specs.Took.{Take, stamps_taken, without_gone}
+use Rattle.pg_run.specs.pg_server.declared.input.Input.{Input}
+use Rattle.pg_run.specs.pg_server.declared.input.Input.TheVariants as input
+use Rattle.pg_run.specs.pg_server.Local.{Effect, closed, effect, finished, first_effect, is_heard, receive, reply_to, takes_effect}
+use Rattle.pg_run.specs.pg_store.declared.store.Store.{Store}
+use Rattle.pg_run.specs.pg_pieces.Done.{Done, idle}
+use Rattle.pg_run.specs.theory_bodies.Asked.{AreAgreed, AskStep, Asking, asking_of}
+use Rattle.pg_run.specs.theory_bodies.Book.{IsHeadOf}
+use Rattle.pg_run.specs.theory_bodies.Protocol.{Note}
+use Rattle.pg_run.proofs.theory_bodies.Agreeing.{agreed}
+use Rattle.pg_run.proofs.theory_flood_pieces.Choices.{chosen}
 use Rattle.law_contents.proofs.Agreed.{Agrees}
 use Rattle.law_contents.proofs.AsksInputs.{CarriesInput, first_step}
 use Rattle.law_contents.proofs.Changes.{Keeps}

@@ -4,37 +4,37 @@ use Rattle.std.proofs.Common.{ℕ, ◌≡◌, ◌≤◌, ◌&&◌, Bool, true, f
 use Rattle.std.proofs.lemmas.Bool.{and_parts, lt-ltb}
 use Rattle.std.proofs.lemmas.List.{append-nil}
 use Rattle.std.proofs.lemmas.List.Elements.{All-nil}
-use Rattle.law_order.specs.pg_announced.declared.announced.Announced.{Announced}
-use Rattle.law_order.specs.pg_announced.Announced.{NotesValue, key_at, note_at}
-use Rattle.law_order.specs.pg_base.declared.head.Head.{Head}
-use Rattle.law_order.specs.pg_base.declared.id.FileId.{FileId}
-use Rattle.law_order.specs.pg_base.declared.policy.Policy.{Policy}
-use Rattle.law_order.specs.pg_base.declared.stamp.Stamp.{Stamp}
-use Rattle.law_order.specs.pg_base.Id.{is_same_file}
-use Rattle.law_order.specs.pg_content.Content.{Among}
-use Rattle.law_order.specs.pg_content.History.{IsHistory, Made}
-use Rattle.law_order.proofs.pg_content.Numbers.{numbers_from_one}
-use Rattle.law_order.specs.pg_msg.declared.message.Ends.{Ends}
-use Rattle.law_order.specs.pg_msg.declared.message.Sent.{Sent}
-use Rattle.law_order.specs.pg_msg.declared.work.Work.{Work}
-use Rattle.law_order.specs.pg_msg.Work.{new_work}
-use Rattle.law_order.specs.pg_names.Names.{is_dir}
-use Rattle.law_order.specs.pg_pieces.declared.accepting.EdgeUse.TheVariants as manner
-use Rattle.law_order.specs.pg_pieces.Accepting.{accept, is_accepted, is_current, meets}
-use Rattle.law_order.specs.pg_pieces.Done.{Done, idle}
-use Rattle.law_order.specs.pg_replica.declared.replica.Replica.{Replica}
-use Rattle.law_order.specs.pg_run.Asking.{Asked}
-use Rattle.law_order.specs.pg_run.Journal.{Born, made_for, with_ancestors}
-use Rattle.law_order.specs.pg_run.Took.{Take, take_of}
-use Rattle.law_order.specs.pg_run.Took.Take.{TookVersion}
-use Rattle.law_order.proofs.pg_run.Sends.{accept_fine}
-use Rattle.law_order.specs.pg_store.declared.store.Store.{Store}
-use Rattle.law_order.specs.pg_store.Births.{has_birth}
-use Rattle.law_order.specs.pg_store.Links.{knows_later}
-use Rattle.law_order.specs.pg_store.Store.{replica_at}
-use Rattle.law_order.specs.theory_bodies.Asked.{AreAgreed}
-use Rattle.law_order.specs.theory_bodies.Book.{IsBook, IsHeadOf}
-use Rattle.law_order.proofs.theory_bodies.Books.{one_head}
+use Rattle.pg_run.specs.pg_announced.declared.announced.Announced.{Announced}
+use Rattle.pg_run.specs.pg_announced.Announced.{NotesValue, key_at, note_at}
+use Rattle.pg_run.specs.pg_base.declared.head.Head.{Head}
+use Rattle.pg_run.specs.pg_base.declared.id.FileId.{FileId}
+use Rattle.pg_run.specs.pg_base.declared.policy.Policy.{Policy}
+use Rattle.pg_run.specs.pg_base.declared.stamp.Stamp.{Stamp}
+use Rattle.pg_run.specs.pg_base.Id.{is_same_file}
+use Rattle.pg_run.specs.pg_content.Content.{Among}
+use Rattle.pg_run.specs.pg_content.History.{IsHistory, Made}
+use Rattle.pg_run.proofs.pg_content.Numbers.{numbers_from_one}
+use Rattle.pg_run.specs.pg_msg.declared.message.Ends.{Ends}
+use Rattle.pg_run.specs.pg_msg.declared.message.Sent.{Sent}
+use Rattle.pg_run.specs.pg_msg.declared.work.Work.{Work}
+use Rattle.pg_run.specs.pg_msg.Work.{new_work}
+use Rattle.pg_run.specs.pg_names.Names.{is_dir}
+use Rattle.pg_run.specs.pg_pieces.declared.accepting.EdgeUse.TheVariants as manner
+use Rattle.pg_run.specs.pg_pieces.Accepting.{accept, is_accepted, is_current, meets}
+use Rattle.pg_run.specs.pg_pieces.Done.{Done, idle}
+use Rattle.pg_run.specs.pg_replica.declared.replica.Replica.{Replica}
+use Rattle.pg_run.specs.Asking.{Asked}
+use Rattle.pg_run.specs.Journal.{Born, made_for, with_ancestors}
+use Rattle.pg_run.specs.Took.{Take, take_of}
+use Rattle.pg_run.specs.Took.Take.{TookVersion}
+use Rattle.pg_run.proofs.Sends.{accept_fine}
+use Rattle.pg_run.specs.pg_store.declared.store.Store.{Store}
+use Rattle.pg_run.specs.pg_store.Births.{has_birth}
+use Rattle.pg_run.specs.pg_store.Links.{knows_later}
+use Rattle.pg_run.specs.pg_store.Store.{replica_at}
+use Rattle.pg_run.specs.theory_bodies.Asked.{AreAgreed}
+use Rattle.pg_run.specs.theory_bodies.Book.{IsBook, IsHeadOf}
+use Rattle.pg_run.proofs.theory_bodies.Books.{one_head}
 use Rattle.law_contents.proofs.Agreed.{Agrees}
 use Rattle.law_contents.proofs.Arrivals.{Arrives, more_came, quiet_arrives}
 use Rattle.law_contents.proofs.Handlers.{accept_quiet}

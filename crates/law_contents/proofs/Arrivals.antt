@@ -1,33 +1,33 @@
 -- What comes to a server: it makes no version, and stands for what came.
 use Rattle.std.proofs.Common.{ℕ, ◌≡◌, ◌≤◌, cond, List, [], ◌∷◌, ◌++◌, map, Some, option_map, refl, sym, ap, subst, ◌∙◌, inl}
-use Rattle.law_order.specs.pg_base.declared.id.FileId.{FileId}
-use Rattle.law_order.specs.pg_base.declared.policy.Policy.{Policy}
-use Rattle.law_order.specs.pg_base.declared.stamp.Stamp.{Stamp}
-use Rattle.law_order.specs.pg_base.Id.{is_same_file}
-use Rattle.law_order.specs.pg_base.Version.{VersionValue}
-use Rattle.law_order.specs.pg_content.Content.{joined_content}
-use Rattle.law_order.specs.pg_content.History.{IsMember}
-use Rattle.law_order.proofs.pg_content.Numbers.{member_of}
-use Rattle.law_order.specs.pg_entries.declared.entry.Entry.{Entry}
-use Rattle.law_order.specs.pg_house.Passing.{is_update}
-use Rattle.law_order.specs.pg_house.Returning.{is_root}
-use Rattle.law_order.specs.pg_intent.declared.intent.Intent.{Intent}
-use Rattle.law_order.specs.pg_intent.declared.intent.Intent.TheVariants as intent
-use Rattle.law_order.specs.pg_msg.declared.message.Granted.{Granted}
-use Rattle.law_order.specs.pg_msg.Work.{new_work}
-use Rattle.law_order.specs.pg_register.declared.place.Place.{Place}
-use Rattle.law_order.specs.pg_replica.declared.replica.Replica.{Replica}
-use Rattle.law_order.specs.pg_run.Carried.{granted_takes, patch_taken, patches_taken}
-use Rattle.law_order.specs.theory_bodies.Book.{IsVersionOf}
-use Rattle.law_order.specs.pg_run.Journal.{Born, made_for, versions_in}
-use Rattle.law_order.specs.pg_run.Took.{Take, entry_takes, flags_of, places_of, stamps_taken, take_of}
-use Rattle.law_order.specs.pg_run.Took.Take.{TookPlace}
-use Rattle.law_order.specs.pg_run.Took.Taker.{InDir, Itself}
-use Rattle.law_order.specs.pg_store.declared.store.Store.{Store}
-use Rattle.law_order.specs.pg_store.Seen.{server_of}
-use Rattle.law_order.specs.pg_store.Store.{is_held, replica_at, take_version}
-use Rattle.law_order.specs.pg_pieces.Done.{Done}
-use Rattle.law_order.proofs.theory_flood_pieces.Choices.{chosen}
+use Rattle.pg_run.specs.pg_base.declared.id.FileId.{FileId}
+use Rattle.pg_run.specs.pg_base.declared.policy.Policy.{Policy}
+use Rattle.pg_run.specs.pg_base.declared.stamp.Stamp.{Stamp}
+use Rattle.pg_run.specs.pg_base.Id.{is_same_file}
+use Rattle.pg_run.specs.pg_base.Version.{VersionValue}
+use Rattle.pg_run.specs.pg_content.Content.{joined_content}
+use Rattle.pg_run.specs.pg_content.History.{IsMember}
+use Rattle.pg_run.proofs.pg_content.Numbers.{member_of}
+use Rattle.pg_run.specs.pg_entries.declared.entry.Entry.{Entry}
+use Rattle.pg_run.specs.pg_house.Passing.{is_update}
+use Rattle.pg_run.specs.pg_house.Returning.{is_root}
+use Rattle.pg_run.specs.pg_intent.declared.intent.Intent.{Intent}
+use Rattle.pg_run.specs.pg_intent.declared.intent.Intent.TheVariants as intent
+use Rattle.pg_run.specs.pg_msg.declared.message.Granted.{Granted}
+use Rattle.pg_run.specs.pg_msg.Work.{new_work}
+use Rattle.pg_run.specs.pg_register.declared.place.Place.{Place}
+use Rattle.pg_run.specs.pg_replica.declared.replica.Replica.{Replica}
+use Rattle.pg_run.specs.Carried.{granted_takes, patch_taken, patches_taken}
+use Rattle.pg_run.specs.theory_bodies.Book.{IsVersionOf}
+use Rattle.pg_run.specs.Journal.{Born, made_for, versions_in}
+use Rattle.pg_run.specs.Took.{Take, entry_takes, flags_of, places_of, stamps_taken, take_of}
+use Rattle.pg_run.specs.Took.Take.{TookPlace}
+use Rattle.pg_run.specs.Took.Taker.{InDir, Itself}
+use Rattle.pg_run.specs.pg_store.declared.store.Store.{Store}
+use Rattle.pg_run.specs.pg_store.Seen.{server_of}
+use Rattle.pg_run.specs.pg_store.Store.{is_held, replica_at, take_version}
+use Rattle.pg_run.specs.pg_pieces.Done.{Done}
+use Rattle.pg_run.proofs.theory_flood_pieces.Choices.{chosen}
 use Rattle.law_contents.proofs.Changes.{Core, IsOrdered, Keeps, by_altered, core_at, core_of}
 use Rattle.law_contents.proofs.Files.{HoldsFile, covered_upto, file_came}
 use Rattle.law_contents.proofs.Joining.{stands_came}

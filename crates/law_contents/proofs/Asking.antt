@@ -2,25 +2,25 @@
 use Rattle.std.proofs.Common.{ℕ, ◌==◌, List, [], ◌∷◌, get_or, Option, None, Some, All}
 use Rattle.std.specs.List.{flat_map}
 use Rattle.std.proofs.lemmas.List.Elements.{All-append, All-cons, All-nil}
-use Rattle.law_order.specs.pg_base.declared.id.FileId.{FileId}
-use Rattle.law_order.specs.pg_base.declared.policy.Policy.{Policy}
-use Rattle.law_order.specs.pg_entries.declared.entry.Entry.{Entry}
-use Rattle.law_order.specs.pg_intent.declared.intent.Intent.{Intent}
-use Rattle.law_order.specs.pg_intent.declared.intent.Intent.TheVariants as intent
-use Rattle.law_order.specs.pg_intent.Intent.{target_of}
-use Rattle.law_order.specs.pg_intent.Intents.{intent_at}
-use Rattle.law_order.specs.pg_msg.declared.message.Message.{Message}
-use Rattle.law_order.specs.pg_msg.declared.message.Sent.{Sent}
-use Rattle.law_order.specs.pg_msg.declared.work.Work.{Work}
-use Rattle.law_order.specs.pg_msg.Work.{with_tail}
-use Rattle.law_order.specs.pg_names.declared.attributes.Attributes.{Attributes}
-use Rattle.law_order.specs.pg_names.Names.{cell_at, own_at}
-use Rattle.law_order.specs.pg_run.Journal.{Born}
-use Rattle.law_order.specs.pg_store.declared.store.Store.{Store}
-use Rattle.law_order.specs.pg_pieces.Posting.{post, sent_to}
-use Rattle.law_order.specs.pg_intentions.Intending.{pieces}
-use Rattle.law_order.specs.pg_intentions.Requests.{ask_all, ask_begun, asked_of, asks, asks_by, confirm_message, leave_message, request}
-use Rattle.law_order.proofs.theory_flood_pieces.Choices.{All-flat_map, chosen}
+use Rattle.pg_run.specs.pg_base.declared.id.FileId.{FileId}
+use Rattle.pg_run.specs.pg_base.declared.policy.Policy.{Policy}
+use Rattle.pg_run.specs.pg_entries.declared.entry.Entry.{Entry}
+use Rattle.pg_run.specs.pg_intent.declared.intent.Intent.{Intent}
+use Rattle.pg_run.specs.pg_intent.declared.intent.Intent.TheVariants as intent
+use Rattle.pg_run.specs.pg_intent.Intent.{target_of}
+use Rattle.pg_run.specs.pg_intent.Intents.{intent_at}
+use Rattle.pg_run.specs.pg_msg.declared.message.Message.{Message}
+use Rattle.pg_run.specs.pg_msg.declared.message.Sent.{Sent}
+use Rattle.pg_run.specs.pg_msg.declared.work.Work.{Work}
+use Rattle.pg_run.specs.pg_msg.Work.{with_tail}
+use Rattle.pg_run.specs.pg_names.declared.attributes.Attributes.{Attributes}
+use Rattle.pg_run.specs.pg_names.Names.{cell_at, own_at}
+use Rattle.pg_run.specs.Journal.{Born}
+use Rattle.pg_run.specs.pg_store.declared.store.Store.{Store}
+use Rattle.pg_run.specs.pg_pieces.Posting.{post, sent_to}
+use Rattle.pg_run.specs.pg_intentions.Intending.{pieces}
+use Rattle.pg_run.specs.pg_intentions.Requests.{ask_all, ask_begun, asked_of, asks, asks_by, confirm_message, leave_message, request}
+use Rattle.pg_run.proofs.theory_flood_pieces.Choices.{All-flat_map, chosen}
 use Rattle.law_contents.proofs.Carrying.{Carries}
 use Rattle.law_contents.proofs.Sending.{AllCarry, CarriesSent}
 

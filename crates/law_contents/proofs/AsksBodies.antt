@@ -7,50 +7,50 @@ use Rattle.std.proofs.lemmas.Bool.{and_parts, false≢true}
 use Rattle.std.proofs.lemmas.Bool.Decides.{Decides-eqb}
 use Rattle.std.proofs.lemmas.List.{append-nil, length-append}
 use Rattle.std.proofs.lemmas.List.Elements.{All-nil, All-push}
-use Rattle.law_order.specs.pg_announced.declared.announced.Announced.{Announced}
-use Rattle.law_order.specs.pg_announced.declared.announced.NoteKey.{NoteKey}
-use Rattle.law_order.specs.pg_announced.Announced.{AreSorted, NotesValue, aimed, change_note, emptied, is_asked_of, key_at, key_cmp, longer, new_note, note_at}
-use Rattle.law_order.proofs.pg_announced.Found.{same_note, without_found}
-use Rattle.law_order.proofs.pg_announced.Sorted.{sorted_without}
-use Rattle.law_order.specs.pg_base.declared.head.Head.{Head}
-use Rattle.law_order.specs.pg_base.declared.id.FileId.{FileId}
-use Rattle.law_order.specs.pg_base.declared.policy.Policy.{Policy}
-use Rattle.law_order.specs.pg_base.declared.stamp.Stamp.{Stamp}
-use Rattle.law_order.specs.pg_base.Version.{VersionValue}
-use Rattle.law_order.specs.pg_content.Covering.{AreVersionsOf}
-use Rattle.law_order.specs.pg_delta.Taking.{delta_to}
-use Rattle.law_order.specs.pg_edges.declared.key.Key.TheVariants as key
-use Rattle.law_order.specs.pg_msg.declared.message.Delta.{Delta}
-use Rattle.law_order.specs.pg_msg.declared.message.Ends.{Ends}
-use Rattle.law_order.specs.pg_msg.declared.message.Message.{Message}
-use Rattle.law_order.specs.pg_msg.declared.message.Message.TheVariants as message
-use Rattle.law_order.specs.pg_msg.declared.message.Piece.{Piece}
-use Rattle.law_order.specs.pg_msg.declared.message.Wanted.{Wanted}
-use Rattle.law_order.specs.pg_msg.declared.work.Work.{Work}
-use Rattle.law_order.specs.pg_msg.Ends.{back}
-use Rattle.law_order.specs.pg_msg.Work.{new_work}
-use Rattle.law_order.specs.pg_patch.Ranges.{body_limit}
-use Rattle.law_order.specs.pg_replica.declared.replica.Replica.{Replica}
-use Rattle.law_order.specs.pg_run.Asking.{Asked}
-use Rattle.law_order.specs.pg_run.Journal.{Born, made_for}
-use Rattle.law_order.proofs.pg_run.TransferWays.{beside_goes, changed_goes, delta_goes, harbinger_goes, heard_goes, others_hear, piece_goes, pieced_goes}
-use Rattle.law_order.specs.pg_store.declared.store.Store.{Store}
-use Rattle.law_order.specs.pg_store.Store.{is_new_version, keep_delta, replica_at, replica_of, take_version}
-use Rattle.law_order.specs.pg_pieces.declared.accepting.EdgeUse.{EdgeUse}
-use Rattle.law_order.specs.pg_pieces.declared.accepting.EdgeUse.TheVariants as manner
-use Rattle.law_order.specs.pg_pieces.Accepting.{accept}
-use Rattle.law_order.specs.pg_pieces.Done.{Done, idle}
-use Rattle.law_order.specs.pg_pieces.Posting.{reply, sent_to}
-use Rattle.law_order.specs.pg_pieces.Taking.{with_news}
-use Rattle.law_order.proofs.pg_pieces.News.{news_sent}
-use Rattle.law_order.specs.pg_server.pg_transfer.Asking.{acknowledged, heard_by, listed, noted, offset_of, put_off}
-use Rattle.law_order.specs.pg_server.pg_transfer.Delta.{delta, patched, refused}
-use Rattle.law_order.specs.pg_server.pg_transfer.Harbinger.{asked_again, first_heard, harbinger, heard}
-use Rattle.law_order.specs.pg_server.pg_transfer.Piece.{completed, is_last, is_next, lengthened, piece, whole, without_noted}
-use Rattle.law_order.specs.pg_server.pg_transfer.Taking.{taken_for}
-use Rattle.law_order.specs.theory_bodies.Asked.{Asking, asking_of}
-use Rattle.law_order.specs.theory_bodies.Book.{IsVersionOf}
-use Rattle.law_order.proofs.theory_flood_pieces.Choices.{chosen}
+use Rattle.pg_run.specs.pg_announced.declared.announced.Announced.{Announced}
+use Rattle.pg_run.specs.pg_announced.declared.announced.NoteKey.{NoteKey}
+use Rattle.pg_run.specs.pg_announced.Announced.{AreSorted, NotesValue, aimed, change_note, emptied, is_asked_of, key_at, key_cmp, longer, new_note, note_at}
+use Rattle.pg_run.proofs.pg_announced.Found.{same_note, without_found}
+use Rattle.pg_run.proofs.pg_announced.Sorted.{sorted_without}
+use Rattle.pg_run.specs.pg_base.declared.head.Head.{Head}
+use Rattle.pg_run.specs.pg_base.declared.id.FileId.{FileId}
+use Rattle.pg_run.specs.pg_base.declared.policy.Policy.{Policy}
+use Rattle.pg_run.specs.pg_base.declared.stamp.Stamp.{Stamp}
+use Rattle.pg_run.specs.pg_base.Version.{VersionValue}
+use Rattle.pg_run.specs.pg_content.Covering.{AreVersionsOf}
+use Rattle.pg_run.specs.pg_delta.Taking.{delta_to}
+use Rattle.pg_run.specs.pg_edges.declared.key.Key.TheVariants as key
+use Rattle.pg_run.specs.pg_msg.declared.message.Delta.{Delta}
+use Rattle.pg_run.specs.pg_msg.declared.message.Ends.{Ends}
+use Rattle.pg_run.specs.pg_msg.declared.message.Message.{Message}
+use Rattle.pg_run.specs.pg_msg.declared.message.Message.TheVariants as message
+use Rattle.pg_run.specs.pg_msg.declared.message.Piece.{Piece}
+use Rattle.pg_run.specs.pg_msg.declared.message.Wanted.{Wanted}
+use Rattle.pg_run.specs.pg_msg.declared.work.Work.{Work}
+use Rattle.pg_run.specs.pg_msg.Ends.{back}
+use Rattle.pg_run.specs.pg_msg.Work.{new_work}
+use Rattle.pg_run.specs.pg_patch.Ranges.{body_limit}
+use Rattle.pg_run.specs.pg_replica.declared.replica.Replica.{Replica}
+use Rattle.pg_run.specs.Asking.{Asked}
+use Rattle.pg_run.specs.Journal.{Born, made_for}
+use Rattle.pg_run.proofs.TransferWays.{beside_goes, changed_goes, delta_goes, harbinger_goes, heard_goes, others_hear, piece_goes, pieced_goes}
+use Rattle.pg_run.specs.pg_store.declared.store.Store.{Store}
+use Rattle.pg_run.specs.pg_store.Store.{is_new_version, keep_delta, replica_at, replica_of, take_version}
+use Rattle.pg_run.specs.pg_pieces.declared.accepting.EdgeUse.{EdgeUse}
+use Rattle.pg_run.specs.pg_pieces.declared.accepting.EdgeUse.TheVariants as manner
+use Rattle.pg_run.specs.pg_pieces.Accepting.{accept}
+use Rattle.pg_run.specs.pg_pieces.Done.{Done, idle}
+use Rattle.pg_run.specs.pg_pieces.Posting.{reply, sent_to}
+use Rattle.pg_run.specs.pg_pieces.Taking.{with_news}
+use Rattle.pg_run.proofs.pg_pieces.News.{news_sent}
+use Rattle.pg_run.specs.pg_server.pg_transfer.Asking.{acknowledged, heard_by, listed, noted, offset_of, put_off}
+use Rattle.pg_run.specs.pg_server.pg_transfer.Delta.{delta, patched, refused}
+use Rattle.pg_run.specs.pg_server.pg_transfer.Harbinger.{asked_again, first_heard, harbinger, heard}
+use Rattle.pg_run.specs.pg_server.pg_transfer.Piece.{completed, is_last, is_next, lengthened, piece, whole, without_noted}
+use Rattle.pg_run.specs.pg_server.pg_transfer.Taking.{taken_for}
+use Rattle.pg_run.specs.theory_bodies.Asked.{Asking, asking_of}
+use Rattle.pg_run.specs.theory_bodies.Book.{IsVersionOf}
+use Rattle.pg_run.proofs.theory_flood_pieces.Choices.{chosen}
 use Rattle.law_contents.proofs.Agreed.{Agrees}
 use Rattle.law_contents.proofs.Answers.{Met, met_from, met_quiet, met_replica, met_stands}
 use Rattle.law_contents.proofs.Carrying.{Carries}

@@ -3,43 +3,43 @@
 use Rattle.std.proofs.Common.{ℕ, ◌≡◌, ◌≢◌, ◌==◌, ◌&&◌, Bool, true, false, cond, not, List, Option, None, Some, is_some, option_map, inl, inr, refl, sym, ap, subst, ◌∙◌}
 use Rattle.std.proofs.lemmas.Bool.{and_from, and_parts, and_right, false≢true}
 use Rattle.std.proofs.lemmas.Bool.Decides.{Decides-eqb}
-use Rattle.law_order.specs.pg_announced.declared.announced.Announced.{Announced}
-use Rattle.law_order.specs.pg_announced.declared.announced.NoteKey.{NoteKey}
-use Rattle.law_order.specs.pg_announced.Announced.{AreSorted, NotesValue, change_note, is_asked_of, key_at, key_cmp, lose_note, note_at, unasked}
-use Rattle.law_order.proofs.pg_announced.Found.{same_note}
-use Rattle.law_order.proofs.pg_announced.Keys.{key_exact}
-use Rattle.law_order.specs.pg_base.declared.id.FileId.{FileId}
-use Rattle.law_order.specs.pg_base.declared.policy.Policy.{Policy}
-use Rattle.law_order.specs.pg_base.declared.stamp.Stamp.{Stamp}
-use Rattle.law_order.specs.pg_base.Id.{is_same_file}
-use Rattle.law_order.proofs.pg_base.Maps.{lookup-where_key}
-use Rattle.law_order.proofs.pg_base.Orders.{is_same_file-refl, is_same_file-true}
-use Rattle.law_order.specs.pg_content.History.{is_same_stamp}
-use Rattle.law_order.proofs.pg_content.Stamps.{same_stamp}
-use Rattle.law_order.specs.pg_intent.declared.key.IntentKey.TheVariants as intent_key
-use Rattle.law_order.specs.pg_intent.Intents.{ended}
-use Rattle.law_order.proofs.pg_names.Lookups.{apart_back}
-use Rattle.law_order.specs.pg_msg.declared.message.Ends.{Ends}
-use Rattle.law_order.specs.pg_msg.declared.message.Message.TheVariants as message
-use Rattle.law_order.specs.pg_msg.declared.work.Work.{Work}
-use Rattle.law_order.specs.pg_msg.Work.{new_work}
-use Rattle.law_order.specs.pg_names.Names.{is_dir}
-use Rattle.law_order.specs.pg_run.Asked.{ends_with, goes as is_gone}
-use Rattle.law_order.specs.pg_run.Asking.{Asked, is_asked_of as is_wanted_of, is_version}
-use Rattle.law_order.specs.pg_run.Carried.{gone_by}
-use Rattle.law_order.specs.pg_run.Journal.{Born}
-use Rattle.law_order.specs.pg_store.declared.store.Store.{Store}
-use Rattle.law_order.specs.pg_store.Beginning.{let_go}
-use Rattle.law_order.specs.pg_store.Births.{birth_of}
-use Rattle.law_order.specs.pg_store.Store.{replica_of}
-use Rattle.law_order.specs.pg_pieces.declared.accepting.EdgeUse.TheVariants as manner
-use Rattle.law_order.specs.pg_pieces.Accepting.{is_accepted}
-use Rattle.law_order.specs.pg_pieces.Done.{Done, idle}
-use Rattle.law_order.specs.pg_pieces.Parting.{stays_for}
-use Rattle.law_order.specs.pg_graph.Leaving.{goes, leave_ok, may_leave, without_leave}
-use Rattle.law_order.specs.pg_server.pg_transfer.Later.{later}
-use Rattle.law_order.specs.theory_bodies.Asked.{Asking, asking_of}
-use Rattle.law_order.specs.theory_bodies.Protocol.{Note}
+use Rattle.pg_run.specs.pg_announced.declared.announced.Announced.{Announced}
+use Rattle.pg_run.specs.pg_announced.declared.announced.NoteKey.{NoteKey}
+use Rattle.pg_run.specs.pg_announced.Announced.{AreSorted, NotesValue, change_note, is_asked_of, key_at, key_cmp, lose_note, note_at, unasked}
+use Rattle.pg_run.proofs.pg_announced.Found.{same_note}
+use Rattle.pg_run.proofs.pg_announced.Keys.{key_exact}
+use Rattle.pg_run.specs.pg_base.declared.id.FileId.{FileId}
+use Rattle.pg_run.specs.pg_base.declared.policy.Policy.{Policy}
+use Rattle.pg_run.specs.pg_base.declared.stamp.Stamp.{Stamp}
+use Rattle.pg_run.specs.pg_base.Id.{is_same_file}
+use Rattle.pg_run.proofs.pg_base.Maps.{lookup-where_key}
+use Rattle.pg_run.proofs.pg_base.Orders.{is_same_file-refl, is_same_file-true}
+use Rattle.pg_run.specs.pg_content.History.{is_same_stamp}
+use Rattle.pg_run.proofs.pg_content.Stamps.{same_stamp}
+use Rattle.pg_run.specs.pg_intent.declared.key.IntentKey.TheVariants as intent_key
+use Rattle.pg_run.specs.pg_intent.Intents.{ended}
+use Rattle.pg_run.proofs.pg_names.Lookups.{apart_back}
+use Rattle.pg_run.specs.pg_msg.declared.message.Ends.{Ends}
+use Rattle.pg_run.specs.pg_msg.declared.message.Message.TheVariants as message
+use Rattle.pg_run.specs.pg_msg.declared.work.Work.{Work}
+use Rattle.pg_run.specs.pg_msg.Work.{new_work}
+use Rattle.pg_run.specs.pg_names.Names.{is_dir}
+use Rattle.pg_run.specs.Asked.{ends_with, goes as is_gone}
+use Rattle.pg_run.specs.Asking.{Asked, is_asked_of as is_wanted_of, is_version}
+use Rattle.pg_run.specs.Carried.{gone_by}
+use Rattle.pg_run.specs.Journal.{Born}
+use Rattle.pg_run.specs.pg_store.declared.store.Store.{Store}
+use Rattle.pg_run.specs.pg_store.Beginning.{let_go}
+use Rattle.pg_run.specs.pg_store.Births.{birth_of}
+use Rattle.pg_run.specs.pg_store.Store.{replica_of}
+use Rattle.pg_run.specs.pg_pieces.declared.accepting.EdgeUse.TheVariants as manner
+use Rattle.pg_run.specs.pg_pieces.Accepting.{is_accepted}
+use Rattle.pg_run.specs.pg_pieces.Done.{Done, idle}
+use Rattle.pg_run.specs.pg_pieces.Parting.{stays_for}
+use Rattle.pg_run.specs.pg_graph.Leaving.{goes, leave_ok, may_leave, without_leave}
+use Rattle.pg_run.specs.pg_server.pg_transfer.Later.{later}
+use Rattle.pg_run.specs.theory_bodies.Asked.{Asking, asking_of}
+use Rattle.pg_run.specs.theory_bodies.Protocol.{Note}
 use Rattle.law_contents.proofs.Agreed.{Agrees}
 use Rattle.law_contents.proofs.Answers.{Met, met_from, met_quiet}
 use Rattle.law_contents.proofs.Changes.{Keeps, Keeps-refl, noted_at}

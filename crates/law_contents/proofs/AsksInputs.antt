@@ -2,36 +2,36 @@
 use Rattle.std.proofs.Common.{ℕ, ◌≡◌, ◌≢◌, ◌<◌, ◌≤◌, ◌==◌, ◌&&◌, ◌||◌, Bool, true, false, cond, not, List, length, Option, None, Some, inl, inr, refl, sym, ap, subst, ◌∙◌, arith}
 use Rattle.std.proofs.lemmas.Bool.{false≢true}
 use Rattle.std.proofs.lemmas.Bool.Decides.{Decides-eqb, nat_tests}
-use Rattle.law_order.specs.pg_announced.declared.announced.Announced.{Announced}
-use Rattle.law_order.specs.pg_announced.Announced.{NotesValue, key_at, note_at}
-use Rattle.law_order.proofs.pg_announced.Found.{released_found}
-use Rattle.law_order.specs.pg_base.declared.id.FileId.{FileId}
-use Rattle.law_order.specs.pg_base.declared.policy.Policy.{Policy}
-use Rattle.law_order.specs.pg_base.declared.stamp.Stamp.{Stamp}
-use Rattle.law_order.specs.pg_call.declared.call.Call.{Call}
-use Rattle.law_order.specs.pg_msg.declared.message.Ends.{Ends}
-use Rattle.law_order.specs.pg_msg.declared.message.Message.{Message}
-use Rattle.law_order.specs.pg_msg.declared.message.Message.TheVariants as message
-use Rattle.law_order.specs.pg_msg.declared.message.Packet.{Packet}
-use Rattle.law_order.specs.pg_msg.Work.{new_work}
-use Rattle.law_order.specs.pg_patch.Ranges.{body_limit}
-use Rattle.law_order.specs.pg_run.Asked.{ends_asking, ends_with, enters, goes as is_gone}
-use Rattle.law_order.specs.pg_run.Asking.{Asked, last_wanted}
-use Rattle.law_order.specs.pg_run.Carried.{gone_by}
-use Rattle.law_order.specs.pg_run.Journal.{Born, made_for}
-use Rattle.law_order.proofs.pg_run.Sends.{AnswersHave}
-use Rattle.law_order.specs.pg_store.declared.store.Store.{Store}
-use Rattle.law_order.specs.pg_store.Seen.{view_of}
-use Rattle.law_order.specs.pg_store.Store.{is_before_clock_end}
-use Rattle.law_order.specs.pg_pieces.declared.accepting.EdgeUse.TheVariants as manner
-use Rattle.law_order.specs.pg_pieces.Accepting.{accept}
-use Rattle.law_order.specs.pg_pieces.Done.{Done, idle}
-use Rattle.law_order.specs.pg_calls.Calls.{do_call}
-use Rattle.law_order.specs.pg_server.declared.input.Input.{Input}
-use Rattle.law_order.specs.pg_server.declared.input.Input.TheVariants as input
-use Rattle.law_order.specs.pg_server.Local.{effect, first_effect, is_heard, receive, ticked, without_sources, without_volatile}
-use Rattle.law_order.specs.pg_server.pg_transfer.Asking.{noted}
-use Rattle.law_order.specs.theory_bodies.Asked.{Asking}
+use Rattle.pg_run.specs.pg_announced.declared.announced.Announced.{Announced}
+use Rattle.pg_run.specs.pg_announced.Announced.{NotesValue, key_at, note_at}
+use Rattle.pg_run.proofs.pg_announced.Found.{released_found}
+use Rattle.pg_run.specs.pg_base.declared.id.FileId.{FileId}
+use Rattle.pg_run.specs.pg_base.declared.policy.Policy.{Policy}
+use Rattle.pg_run.specs.pg_base.declared.stamp.Stamp.{Stamp}
+use Rattle.pg_run.specs.pg_call.declared.call.Call.{Call}
+use Rattle.pg_run.specs.pg_msg.declared.message.Ends.{Ends}
+use Rattle.pg_run.specs.pg_msg.declared.message.Message.{Message}
+use Rattle.pg_run.specs.pg_msg.declared.message.Message.TheVariants as message
+use Rattle.pg_run.specs.pg_msg.declared.message.Packet.{Packet}
+use Rattle.pg_run.specs.pg_msg.Work.{new_work}
+use Rattle.pg_run.specs.pg_patch.Ranges.{body_limit}
+use Rattle.pg_run.specs.Asked.{ends_asking, ends_with, enters, goes as is_gone}
+use Rattle.pg_run.specs.Asking.{Asked, last_wanted}
+use Rattle.pg_run.specs.Carried.{gone_by}
+use Rattle.pg_run.specs.Journal.{Born, made_for}
+use Rattle.pg_run.proofs.Sends.{AnswersHave}
+use Rattle.pg_run.specs.pg_store.declared.store.Store.{Store}
+use Rattle.pg_run.specs.pg_store.Seen.{view_of}
+use Rattle.pg_run.specs.pg_store.Store.{is_before_clock_end}
+use Rattle.pg_run.specs.pg_pieces.declared.accepting.EdgeUse.TheVariants as manner
+use Rattle.pg_run.specs.pg_pieces.Accepting.{accept}
+use Rattle.pg_run.specs.pg_pieces.Done.{Done, idle}
+use Rattle.pg_run.specs.pg_calls.Calls.{do_call}
+use Rattle.pg_run.specs.pg_server.declared.input.Input.{Input}
+use Rattle.pg_run.specs.pg_server.declared.input.Input.TheVariants as input
+use Rattle.pg_run.specs.pg_server.Local.{effect, first_effect, is_heard, receive, ticked, without_sources, without_volatile}
+use Rattle.pg_run.specs.pg_server.pg_transfer.Asking.{noted}
+use Rattle.pg_run.specs.theory_bodies.Asked.{Asking}
 use Rattle.law_contents.proofs.Agreed.{Agrees}
 use Rattle.law_contents.proofs.AsksBodies.{delta_asks, harbinger_asks, piece_asks}
 use Rattle.law_contents.proofs.AsksEnding.{idle_base, later_step, leave_ok_step, released_step}

@@ -2,35 +2,35 @@
 -- a version.
 use Rattle.std.proofs.Common.{ℕ, ◌≡◌, ◌<◌, ◌≤◌, ◌+◌, ◌^◌, Bool, true, false, cond, length, List, [], ◌∷◌, ◌++◌, map, Option, None, Some, refl, sym, ap, subst, ◌∙◌, inl, inr, ◌⊎◌, arith}
 use Rattle.std.proofs.lemmas.List.{map-append}
-use Rattle.law_order.specs.pg_base.declared.id.FileId.{FileId}
-use Rattle.law_order.specs.pg_base.declared.id.Kind.{Kind}
-use Rattle.law_order.specs.pg_base.declared.policy.Policy.{Policy}
-use Rattle.law_order.specs.pg_base.declared.stamp.Stamp.{Stamp}
-use Rattle.law_order.specs.pg_base.Id.{is_same_file}
-use Rattle.law_order.specs.pg_base.Version.{VersionValue}
-use Rattle.law_order.proofs.pg_base.Orders.{is_same_file-refl, is_same_file-true}
-use Rattle.law_order.specs.pg_content.Content.{Among, body_limit}
-use Rattle.law_order.specs.pg_content.History.{body_of}
-use Rattle.law_order.specs.pg_call.declared.reply.Reply.TheVariants as reply
-use Rattle.law_order.specs.pg_msg.declared.update.MadeVersion.{MadeVersion}
-use Rattle.law_order.specs.pg_msg.declared.update.Update.{Update}
-use Rattle.law_order.specs.pg_msg.declared.update.Update.TheVariants as update
-use Rattle.law_order.specs.pg_msg.declared.work.Work.{Work}
-use Rattle.law_order.specs.pg_msg.Work.{new_work}
-use Rattle.law_order.specs.pg_names.Names.{blank_own, is_dir, is_dir_kind}
-use Rattle.law_order.specs.pg_replica.declared.replica.Replica.{Replica}
-use Rattle.law_order.specs.pg_run.Journal.{Born, made_for, versions_in}
-use Rattle.law_order.specs.pg_run.Took.{stamps_taken, take_of}
-use Rattle.law_order.specs.pg_run.Took.Take.{Began}
-use Rattle.law_order.specs.pg_store.declared.store.Store.{Store}
-use Rattle.law_order.specs.pg_store.Births.{draw_birth, with_birth}
-use Rattle.law_order.specs.pg_store.Store.{is_before_clock_end, replica_at, write}
-use Rattle.law_order.proofs.pg_store.InTime.{births_in_time}
-use Rattle.law_order.specs.pg_pieces.Done.{Done, idle}
-use Rattle.law_order.specs.pg_checks.declared.checks.NewName.{NewName}
-use Rattle.law_order.specs.pg_checks.Answer.{Answer, answer}
-use Rattle.law_order.specs.pg_calls.Making.{drawn, first_ranges, make_place, version_of}
-use Rattle.law_order.specs.pg_calls.Naming.{begun, next_id, place_in, with_first_version, with_id, with_thing}
+use Rattle.pg_run.specs.pg_base.declared.id.FileId.{FileId}
+use Rattle.pg_run.specs.pg_base.declared.id.Kind.{Kind}
+use Rattle.pg_run.specs.pg_base.declared.policy.Policy.{Policy}
+use Rattle.pg_run.specs.pg_base.declared.stamp.Stamp.{Stamp}
+use Rattle.pg_run.specs.pg_base.Id.{is_same_file}
+use Rattle.pg_run.specs.pg_base.Version.{VersionValue}
+use Rattle.pg_run.proofs.pg_base.Orders.{is_same_file-refl, is_same_file-true}
+use Rattle.pg_run.specs.pg_content.Content.{Among, body_limit}
+use Rattle.pg_run.specs.pg_content.History.{body_of}
+use Rattle.pg_run.specs.pg_call.declared.reply.Reply.TheVariants as reply
+use Rattle.pg_run.specs.pg_msg.declared.update.MadeVersion.{MadeVersion}
+use Rattle.pg_run.specs.pg_msg.declared.update.Update.{Update}
+use Rattle.pg_run.specs.pg_msg.declared.update.Update.TheVariants as update
+use Rattle.pg_run.specs.pg_msg.declared.work.Work.{Work}
+use Rattle.pg_run.specs.pg_msg.Work.{new_work}
+use Rattle.pg_run.specs.pg_names.Names.{blank_own, is_dir, is_dir_kind}
+use Rattle.pg_run.specs.pg_replica.declared.replica.Replica.{Replica}
+use Rattle.pg_run.specs.Journal.{Born, made_for, versions_in}
+use Rattle.pg_run.specs.Took.{stamps_taken, take_of}
+use Rattle.pg_run.specs.Took.Take.{Began}
+use Rattle.pg_run.specs.pg_store.declared.store.Store.{Store}
+use Rattle.pg_run.specs.pg_store.Births.{draw_birth, with_birth}
+use Rattle.pg_run.specs.pg_store.Store.{is_before_clock_end, replica_at, write}
+use Rattle.pg_run.proofs.pg_store.InTime.{births_in_time}
+use Rattle.pg_run.specs.pg_pieces.Done.{Done, idle}
+use Rattle.pg_run.specs.pg_checks.declared.checks.NewName.{NewName}
+use Rattle.pg_run.specs.pg_checks.Answer.{Answer, answer}
+use Rattle.pg_run.specs.pg_calls.Making.{drawn, first_ranges, make_place, version_of}
+use Rattle.pg_run.specs.pg_calls.Naming.{begun, next_id, place_in, with_first_version, with_id, with_thing}
 use Rattle.law_contents.proofs.Arrivals.{Arrives, more_came}
 use Rattle.law_contents.proofs.Changes.{Alters, Core, alters_keeps, by_altered, core_at, core_of, keeps_alters, new_core, replica_of_core}
 use Rattle.law_contents.proofs.Histories.{update_of}

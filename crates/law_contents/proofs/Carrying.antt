@@ -1,23 +1,23 @@
 -- What messages carry of the contents of files: versions that were made, and the policies of files.
 use Rattle.std.proofs.Common.{◌≡◌, List, Option, None, Some}
-use Rattle.law_order.specs.pg_base.declared.head.Head.{Head}
-use Rattle.law_order.specs.pg_base.declared.id.FileId.{FileId}
-use Rattle.law_order.specs.pg_base.declared.policy.Policy.{Policy}
-use Rattle.law_order.specs.pg_patch.Ranges.{IsRanges}
-use Rattle.law_order.specs.pg_content.History.{body_of}
-use Rattle.law_order.specs.pg_delta.Leading.{IsTrueDelta}
-use Rattle.law_order.specs.pg_delta.Taking.{delta_to}
-use Rattle.law_order.specs.pg_entries.declared.cell.Cell.{Cell}
-use Rattle.law_order.specs.pg_entries.declared.cell.Cell.TheVariants as cell
-use Rattle.law_order.specs.pg_msg.declared.message.Delta.{Delta}
-use Rattle.law_order.specs.pg_msg.declared.message.Message.{Message}
-use Rattle.law_order.specs.pg_msg.declared.message.Message.TheVariants as message
-use Rattle.law_order.specs.pg_msg.declared.message.Piece.{Piece}
-use Rattle.law_order.specs.pg_event.declared.entry.Entry.{Entry}
-use Rattle.law_order.specs.theory_bodies.Book.{IsHeadOf, IsVersionOf}
-use Rattle.law_order.specs.theory_bodies.Telling.{IsSlice}
-use Rattle.law_order.specs.pg_run.Journal.{Born, made_for}
-use Rattle.law_order.specs.pg_run.State.{policy_made}
+use Rattle.pg_run.specs.pg_base.declared.head.Head.{Head}
+use Rattle.pg_run.specs.pg_base.declared.id.FileId.{FileId}
+use Rattle.pg_run.specs.pg_base.declared.policy.Policy.{Policy}
+use Rattle.pg_run.specs.pg_patch.Ranges.{IsRanges}
+use Rattle.pg_run.specs.pg_content.History.{body_of}
+use Rattle.pg_run.specs.pg_delta.Leading.{IsTrueDelta}
+use Rattle.pg_run.specs.pg_delta.Taking.{delta_to}
+use Rattle.pg_run.specs.pg_entries.declared.cell.Cell.{Cell}
+use Rattle.pg_run.specs.pg_entries.declared.cell.Cell.TheVariants as cell
+use Rattle.pg_run.specs.pg_msg.declared.message.Delta.{Delta}
+use Rattle.pg_run.specs.pg_msg.declared.message.Message.{Message}
+use Rattle.pg_run.specs.pg_msg.declared.message.Message.TheVariants as message
+use Rattle.pg_run.specs.pg_msg.declared.message.Piece.{Piece}
+use Rattle.pg_run.specs.pg_event.declared.entry.Entry.{Entry}
+use Rattle.pg_run.specs.theory_bodies.Book.{IsHeadOf, IsVersionOf}
+use Rattle.pg_run.specs.theory_bodies.Telling.{IsSlice}
+use Rattle.pg_run.specs.Journal.{Born, made_for}
+use Rattle.pg_run.specs.State.{policy_made}
 
 -- a cell of a version carries one of those that were made of the file
 abbrev pub CarriesCell : List Born → (FileId → Policy) → FileId → Cell → Type 0

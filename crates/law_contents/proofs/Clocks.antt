@@ -3,22 +3,22 @@ use Rattle.std.proofs.Common.{ℕ, ◌≡◌, ◌<◌, ◌^◌, ◌&&◌, Bool, 
 use Rattle.std.specs.Prelude.{nat_lt}
 use Rattle.std.proofs.lemmas.Bool.{and_parts, ltb-true}
 use Rattle.std.proofs.lemmas.List.Folds.{list_any_none}
-use Rattle.law_order.specs.pg_base.declared.id.FileId.{FileId}
-use Rattle.law_order.specs.pg_base.declared.policy.Policy.{Policy}
-use Rattle.law_order.specs.pg_base.Stamp.{clock_end}
-use Rattle.law_order.specs.pg_base.Version.{VersionValue}
-use Rattle.law_order.specs.pg_content.Content.{Among}
-use Rattle.law_order.proofs.pg_content.Members.{among_all}
-use Rattle.law_order.specs.pg_replica.declared.replica.Replica.{Replica}
-use Rattle.law_order.specs.pg_replica.Replica.{has_own_end, knows_own_end}
-use Rattle.law_order.specs.pg_replica.Replicas.{have_own_end}
-use Rattle.law_order.specs.pg_run.Histories.{ClockEndsFirst}
-use Rattle.law_order.specs.pg_run.Journal.{Born, made_for}
-use Rattle.law_order.specs.pg_run.Run.{run}
-use Rattle.law_order.specs.pg_store.declared.store.Store.{Store}
-use Rattle.law_order.specs.pg_store.Seen.{server_of}
-use Rattle.law_order.specs.pg_store.Store.{has_time, have_own_flag_at_end, replica_at}
-use Rattle.law_order.proofs.theory_flood_pieces.Found.{entries_known}
+use Rattle.pg_run.specs.pg_base.declared.id.FileId.{FileId}
+use Rattle.pg_run.specs.pg_base.declared.policy.Policy.{Policy}
+use Rattle.pg_run.specs.pg_base.Stamp.{clock_end}
+use Rattle.pg_run.specs.pg_base.Version.{VersionValue}
+use Rattle.pg_run.specs.pg_content.Content.{Among}
+use Rattle.pg_run.proofs.pg_content.Members.{among_all}
+use Rattle.pg_run.specs.pg_replica.declared.replica.Replica.{Replica}
+use Rattle.pg_run.specs.pg_replica.Replica.{has_own_end, knows_own_end}
+use Rattle.pg_run.specs.pg_replica.Replicas.{have_own_end}
+use Rattle.pg_run.specs.Histories.{ClockEndsFirst}
+use Rattle.pg_run.specs.Journal.{Born, made_for}
+use Rattle.pg_run.specs.Run.{run}
+use Rattle.pg_run.specs.pg_store.declared.store.Store.{Store}
+use Rattle.pg_run.specs.pg_store.Seen.{server_of}
+use Rattle.pg_run.specs.pg_store.Store.{has_time, have_own_flag_at_end, replica_at}
+use Rattle.pg_run.proofs.theory_flood_pieces.Found.{entries_known}
 use Rattle.law_contents.specs.Together.{StandOn}
 use Rattle.law_contents.proofs.Changes.{IsOrdered, core_of}
 use Rattle.law_contents.proofs.Histories.{AreMade}

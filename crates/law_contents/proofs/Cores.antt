@@ -1,16 +1,16 @@
 -- The births and contents of replicas in maps of them.
 use Rattle.std.proofs.Common.{ℕ, ◌≡◌, ◌≤◌, Bool, true, false, cond, max, List, Option, None, Some, option_map, refl, sym, ap, subst, ◌∙◌, arith}
-use Rattle.law_order.specs.pg_base.declared.id.FileId.{FileId}
-use Rattle.law_order.specs.pg_base.Id.{file_cmp, is_same_file}
-use Rattle.law_order.proofs.pg_base.Entries.{IsStrictlySortedBy-insert_entry}
-use Rattle.law_order.proofs.pg_base.Maps.{lookup-insert_entry}
-use Rattle.law_order.proofs.pg_base.Orders.{file_total, is_same_file-refl, is_same_file-true}
-use Rattle.law_order.specs.pg_edges.declared.key.Key.{Key}
-use Rattle.law_order.specs.pg_replica.declared.link.Link.{Link}
-use Rattle.law_order.specs.pg_replica.declared.replica.Replica.{Replica}
-use Rattle.law_order.specs.pg_replica.Replica.{has_edge, with_ack, with_link, with_touch, with_unlink}
-use Rattle.law_order.specs.pg_replica.Replicas.{ByFile, put_replica, replica_in, replicas_acked, replicas_linked, replicas_touched, replicas_unlinked}
-use Rattle.law_order.proofs.theory_flood_pieces.Choices.{chosen}
+use Rattle.pg_run.specs.pg_base.declared.id.FileId.{FileId}
+use Rattle.pg_run.specs.pg_base.Id.{file_cmp, is_same_file}
+use Rattle.pg_run.proofs.pg_base.Entries.{IsStrictlySortedBy-insert_entry}
+use Rattle.pg_run.proofs.pg_base.Maps.{lookup-insert_entry}
+use Rattle.pg_run.proofs.pg_base.Orders.{file_total, is_same_file-refl, is_same_file-true}
+use Rattle.pg_run.specs.pg_edges.declared.key.Key.{Key}
+use Rattle.pg_run.specs.pg_replica.declared.link.Link.{Link}
+use Rattle.pg_run.specs.pg_replica.declared.replica.Replica.{Replica}
+use Rattle.pg_run.specs.pg_replica.Replica.{has_edge, with_ack, with_link, with_touch, with_unlink}
+use Rattle.pg_run.specs.pg_replica.Replicas.{ByFile, put_replica, replica_in, replicas_acked, replicas_linked, replicas_touched, replicas_unlinked}
+use Rattle.pg_run.proofs.theory_flood_pieces.Choices.{chosen}
 use Rattle.law_contents.proofs.Changes.{Core, IsOrdered, core_of}
 
 -- ---- maps of replicas

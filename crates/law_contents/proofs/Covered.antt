@@ -1,27 +1,27 @@
 -- What the heads of a file cover was taken; and a version that is taken is covered then.
 use Rattle.std.proofs.Common.{ℕ, ◌≡◌, ◌≤◌, Bool, true, false, cond, List, Option, None, Some, option_map, refl, sym, ap, subst, ◌∙◌, min, length, take, length-take, arith}
-use Rattle.law_order.specs.pg_announced.Announced.{AreSorted}
-use Rattle.law_order.specs.pg_base.declared.head.Head.{Head}
-use Rattle.law_order.specs.pg_base.declared.id.FileId.{FileId}
-use Rattle.law_order.specs.pg_base.declared.policy.Policy.{Policy}
-use Rattle.law_order.specs.pg_base.declared.stamp.Stamp.{Stamp}
-use Rattle.law_order.specs.pg_base.Id.{is_same_file}
-use Rattle.law_order.specs.pg_base.Version.{VersionValue, actor_of}
-use Rattle.law_order.proofs.pg_base.Orders.{is_same_file-true}
-use Rattle.law_order.specs.pg_content.Content.{Among, ContentValue, IsCovered, is_covered, joined_content}
-use Rattle.law_order.specs.pg_content.Covering.{AreVersionsOf}
-use Rattle.law_order.specs.pg_content.History.{IsHistory, Made, body_of, maker, number_of, version_of}
-use Rattle.law_order.proofs.pg_content.Covering.{joined_covers}
-use Rattle.law_order.proofs.pg_content.Heads.{covered_is, is_covered_by}
-use Rattle.law_order.proofs.pg_content.Standing.{covered_member, member_covered}
-use Rattle.law_order.specs.pg_delta.declared.delta.KeptDelta.{KeptDelta}
-use Rattle.law_order.specs.pg_replica.declared.replica.Replica.{Replica}
-use Rattle.law_order.specs.pg_replica.Replica.{with_kept}
-use Rattle.law_order.specs.pg_replica.Replicas.{replicas_keeping, takes_version}
-use Rattle.law_order.specs.pg_run.Journal.{with_ancestors}
-use Rattle.law_order.specs.pg_store.declared.store.Store.{Store}
-use Rattle.law_order.specs.pg_store.Store.{is_new_version, keep_delta, put_version, replica_at, take_version}
-use Rattle.law_order.specs.theory_bodies.Book.{IsHeadOf, IsVersionOf}
+use Rattle.pg_run.specs.pg_announced.Announced.{AreSorted}
+use Rattle.pg_run.specs.pg_base.declared.head.Head.{Head}
+use Rattle.pg_run.specs.pg_base.declared.id.FileId.{FileId}
+use Rattle.pg_run.specs.pg_base.declared.policy.Policy.{Policy}
+use Rattle.pg_run.specs.pg_base.declared.stamp.Stamp.{Stamp}
+use Rattle.pg_run.specs.pg_base.Id.{is_same_file}
+use Rattle.pg_run.specs.pg_base.Version.{VersionValue, actor_of}
+use Rattle.pg_run.proofs.pg_base.Orders.{is_same_file-true}
+use Rattle.pg_run.specs.pg_content.Content.{Among, ContentValue, IsCovered, is_covered, joined_content}
+use Rattle.pg_run.specs.pg_content.Covering.{AreVersionsOf}
+use Rattle.pg_run.specs.pg_content.History.{IsHistory, Made, body_of, maker, number_of, version_of}
+use Rattle.pg_run.proofs.pg_content.Covering.{joined_covers}
+use Rattle.pg_run.proofs.pg_content.Heads.{covered_is, is_covered_by}
+use Rattle.pg_run.proofs.pg_content.Standing.{covered_member, member_covered}
+use Rattle.pg_run.specs.pg_delta.declared.delta.KeptDelta.{KeptDelta}
+use Rattle.pg_run.specs.pg_replica.declared.replica.Replica.{Replica}
+use Rattle.pg_run.specs.pg_replica.Replica.{with_kept}
+use Rattle.pg_run.specs.pg_replica.Replicas.{replicas_keeping, takes_version}
+use Rattle.pg_run.specs.Journal.{with_ancestors}
+use Rattle.pg_run.specs.pg_store.declared.store.Store.{Store}
+use Rattle.pg_run.specs.pg_store.Store.{is_new_version, keep_delta, put_version, replica_at, take_version}
+use Rattle.pg_run.specs.theory_bodies.Book.{IsHeadOf, IsVersionOf}
 use Rattle.law_contents.proofs.Changes.{AreOpen, Core, Covers, IsOpen, Keeps-refl, core_at, core_of, noted_at}
 use Rattle.law_contents.proofs.Cores.{put_elsewhere, put_here}
 use Rattle.law_contents.proofs.Files.{Stood}

@@ -6,13 +6,13 @@ use Rattle.std.specs.Map.{keys_of, set_value}
 use Rattle.std.specs.Ordering.{eq_by_cmp, is_eq}
 use Rattle.std.proofs.lemmas.Map.{lookup-none}
 use Rattle.std.proofs.lemmas.Map.Keys.{sorted_head, sorted_tail}
-use Rattle.law_order.specs.pg_announced.declared.announced.Announced.{Announced}
-use Rattle.law_order.specs.pg_announced.declared.announced.NoteKey.{NoteKey}
-use Rattle.law_order.specs.pg_announced.Announced.{AreSorted, NotesValue, change_note, changed, key_cmp, note_at, put_note, without_note}
-use Rattle.law_order.proofs.pg_announced.Keys.{key_exact, key_total}
-use Rattle.law_order.proofs.pg_base.Entries.{insert_there}
-use Rattle.law_order.proofs.pg_base.Maps.{lookup-insert_entry}
-use Rattle.law_order.proofs.pg_base.Orders.{is_eq-true}
+use Rattle.pg_run.specs.pg_announced.declared.announced.Announced.{Announced}
+use Rattle.pg_run.specs.pg_announced.declared.announced.NoteKey.{NoteKey}
+use Rattle.pg_run.specs.pg_announced.Announced.{AreSorted, NotesValue, change_note, changed, key_cmp, note_at, put_note, without_note}
+use Rattle.pg_run.proofs.pg_announced.Keys.{key_exact, key_total}
+use Rattle.pg_run.proofs.pg_base.Entries.{insert_there}
+use Rattle.pg_run.proofs.pg_base.Maps.{lookup-insert_entry}
+use Rattle.pg_run.proofs.pg_base.Orders.{is_eq-true}
 
 pub pair_is : (q k : NoteKey) (n m : Announced) → q ≡ k → Some m ≡ Some n
     → ◌≡◌ {A = NoteKey × Announced} (q, n) (k, m)

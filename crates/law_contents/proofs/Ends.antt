@@ -4,36 +4,36 @@ use Rattle.std.proofs.Common.{ℕ, ◌≡◌, true, List, [], ◌∷◌, ◌++�
 use Rattle.std.proofs.lemmas.List.{append-nil, append_assoc}
 use Rattle.std.proofs.lemmas.List.Elements.{All-append}
 use Rattle.std.proofs.Math.Seq.{drop-append_seam}
-use Rattle.law_order.specs.pg_base.declared.id.FileId.{FileId}
-use Rattle.law_order.specs.pg_base.declared.policy.Policy.{Policy}
-use Rattle.law_order.specs.pg_call.declared.reply.Reply.{Reply}
-use Rattle.law_order.specs.pg_edges.declared.key.Key.TheVariants as key
-use Rattle.law_order.specs.pg_msg.declared.update.Update.{Update}
-use Rattle.law_order.specs.pg_msg.declared.update.Update.TheVariants as update
-use Rattle.law_order.specs.pg_msg.declared.work.Work.{Work}
-use Rattle.law_order.specs.pg_msg.Work.{with_made}
-use Rattle.law_order.specs.pg_names.Names.{NamesValue, is_full}
-use Rattle.law_order.specs.pg_house.House.{house}
-use Rattle.law_order.proofs.pg_house.Fullness.{rules_full}
-use Rattle.law_order.specs.pg_house.Work.{state_of}
-use Rattle.law_order.specs.pg_replica.Replicas.{ByFile, replica_in}
-use Rattle.law_order.specs.pg_run.Journal.{Born, versions_in}
-use Rattle.law_order.specs.pg_store.declared.store.Store.{Store}
-use Rattle.law_order.specs.pg_store.Store.{is_newer_flag, with_names}
-use Rattle.law_order.specs.pg_pieces.Done.{Done, idle}
-use Rattle.law_order.specs.pg_cells.Finish.{finish}
-use Rattle.law_order.specs.pg_pieces.Golds.{is_goldless}
-use Rattle.law_order.specs.pg_pieces.Making.{own_next, raise_flag}
-use Rattle.law_order.specs.pg_cells.Sending.{is_chosen}
-use Rattle.law_order.specs.pg_cells.Settling.{rules, settle}
-use Rattle.law_order.proofs.pg_pieces.News.{news_made}
-use Rattle.law_order.proofs.pg_cells.Settled.{settle_keeps}
-use Rattle.law_order.specs.pg_intentions.Beginning.{begin_end}
-use Rattle.law_order.specs.pg_intentions.Requests.{ask_begun}
-use Rattle.law_order.proofs.pg_intentions.Steady.{IsSteady, begin_end_stays}
-use Rattle.law_order.specs.pg_server.Local.{Effect, closed, finished}
-use Rattle.law_order.proofs.theory_flood_pieces.Front.{house_sent, house_tail}
-use Rattle.law_order.proofs.theory_flood_pieces.Settling.{raised_work}
+use Rattle.pg_run.specs.pg_base.declared.id.FileId.{FileId}
+use Rattle.pg_run.specs.pg_base.declared.policy.Policy.{Policy}
+use Rattle.pg_run.specs.pg_call.declared.reply.Reply.{Reply}
+use Rattle.pg_run.specs.pg_edges.declared.key.Key.TheVariants as key
+use Rattle.pg_run.specs.pg_msg.declared.update.Update.{Update}
+use Rattle.pg_run.specs.pg_msg.declared.update.Update.TheVariants as update
+use Rattle.pg_run.specs.pg_msg.declared.work.Work.{Work}
+use Rattle.pg_run.specs.pg_msg.Work.{with_made}
+use Rattle.pg_run.specs.pg_names.Names.{NamesValue, is_full}
+use Rattle.pg_run.specs.pg_house.House.{house}
+use Rattle.pg_run.proofs.pg_house.Fullness.{rules_full}
+use Rattle.pg_run.specs.pg_house.Work.{state_of}
+use Rattle.pg_run.specs.pg_replica.Replicas.{ByFile, replica_in}
+use Rattle.pg_run.specs.Journal.{Born, versions_in}
+use Rattle.pg_run.specs.pg_store.declared.store.Store.{Store}
+use Rattle.pg_run.specs.pg_store.Store.{is_newer_flag, with_names}
+use Rattle.pg_run.specs.pg_pieces.Done.{Done, idle}
+use Rattle.pg_run.specs.pg_cells.Finish.{finish}
+use Rattle.pg_run.specs.pg_pieces.Golds.{is_goldless}
+use Rattle.pg_run.specs.pg_pieces.Making.{own_next, raise_flag}
+use Rattle.pg_run.specs.pg_cells.Sending.{is_chosen}
+use Rattle.pg_run.specs.pg_cells.Settling.{rules, settle}
+use Rattle.pg_run.proofs.pg_pieces.News.{news_made}
+use Rattle.pg_run.proofs.pg_cells.Settled.{settle_keeps}
+use Rattle.pg_run.specs.pg_intentions.Beginning.{begin_end}
+use Rattle.pg_run.specs.pg_intentions.Requests.{ask_begun}
+use Rattle.pg_run.proofs.pg_intentions.Steady.{IsSteady, begin_end_stays}
+use Rattle.pg_run.specs.pg_server.Local.{Effect, closed, finished}
+use Rattle.pg_run.proofs.theory_flood_pieces.Front.{house_sent, house_tail}
+use Rattle.pg_run.proofs.theory_flood_pieces.Settling.{raised_work}
 use Rattle.law_contents.proofs.Asking.{begun_carry}
 use Rattle.law_contents.proofs.Changes.{IsOrdered, Keeps, Keeps-refl, Keeps-trans, core_of}
 use Rattle.law_contents.proofs.Pieces.{flag_keeps, names_keep, touches_keep}

@@ -1,27 +1,27 @@
 -- A server is given up: no content changes, no version is made, and what is sent carries none.
 use Rattle.std.proofs.Common.{ℕ, ◌≡◌, List, [], ◌∷◌, ◌++◌, map, Option, None, Some, inl, refl, sym, ap, ◌∙◌}
 use Rattle.std.specs.Map.{keys_of}
-use Rattle.law_order.proofs.pg_announced.Sorted.{sorted_none}
-use Rattle.law_order.specs.pg_base.declared.id.FileId.{FileId}
-use Rattle.law_order.specs.pg_base.declared.policy.Policy.{Policy}
-use Rattle.law_order.specs.pg_base.declared.stamp.Stamp.{Stamp}
-use Rattle.law_order.specs.pg_edges.declared.edge.Edge.{Edge}
-use Rattle.law_order.specs.pg_intent.Intents.{keys_to, turned_each}
-use Rattle.law_order.specs.pg_msg.declared.message.Message.TheVariants as message
-use Rattle.law_order.specs.pg_msg.declared.work.Work.{Work}
-use Rattle.law_order.specs.pg_msg.Work.{new_work}
-use Rattle.law_order.proofs.theory_flood_pieces.Choices.{chosen}
-use Rattle.law_order.specs.pg_run.Journal.{Born}
-use Rattle.law_order.specs.pg_run.Took.{Take, take_of}
-use Rattle.law_order.specs.pg_store.declared.store.Store.{Store}
-use Rattle.law_order.specs.pg_store.Beginning.{with_intents}
-use Rattle.law_order.specs.pg_store.Servers.{next_target}
-use Rattle.law_order.specs.pg_store.Views.{cut, cut_born, cut_each, enter, listed_birth, turn, with_removed}
-use Rattle.law_order.specs.pg_store.Wishes.{aim_each, wished_of}
-use Rattle.law_order.specs.pg_pieces.Accepting.{ends_to}
-use Rattle.law_order.specs.pg_pieces.Done.{idle}
-use Rattle.law_order.specs.pg_intentions.Inviting.{invite_along, invite_each, invite_of, invites, loose_edge}
-use Rattle.law_order.specs.pg_calls.GivingUp.{doubt_all, enter_view}
+use Rattle.pg_run.proofs.pg_announced.Sorted.{sorted_none}
+use Rattle.pg_run.specs.pg_base.declared.id.FileId.{FileId}
+use Rattle.pg_run.specs.pg_base.declared.policy.Policy.{Policy}
+use Rattle.pg_run.specs.pg_base.declared.stamp.Stamp.{Stamp}
+use Rattle.pg_run.specs.pg_edges.declared.edge.Edge.{Edge}
+use Rattle.pg_run.specs.pg_intent.Intents.{keys_to, turned_each}
+use Rattle.pg_run.specs.pg_msg.declared.message.Message.TheVariants as message
+use Rattle.pg_run.specs.pg_msg.declared.work.Work.{Work}
+use Rattle.pg_run.specs.pg_msg.Work.{new_work}
+use Rattle.pg_run.proofs.theory_flood_pieces.Choices.{chosen}
+use Rattle.pg_run.specs.Journal.{Born}
+use Rattle.pg_run.specs.Took.{Take, take_of}
+use Rattle.pg_run.specs.pg_store.declared.store.Store.{Store}
+use Rattle.pg_run.specs.pg_store.Beginning.{with_intents}
+use Rattle.pg_run.specs.pg_store.Servers.{next_target}
+use Rattle.pg_run.specs.pg_store.Views.{cut, cut_born, cut_each, enter, listed_birth, turn, with_removed}
+use Rattle.pg_run.specs.pg_store.Wishes.{aim_each, wished_of}
+use Rattle.pg_run.specs.pg_pieces.Accepting.{ends_to}
+use Rattle.pg_run.specs.pg_pieces.Done.{idle}
+use Rattle.pg_run.specs.pg_intentions.Inviting.{invite_along, invite_each, invite_of, invites, loose_edge}
+use Rattle.pg_run.specs.pg_calls.GivingUp.{doubt_all, enter_view}
 use Rattle.law_contents.proofs.Arrivals.{Arrives, more_came}
 use Rattle.law_contents.proofs.Changes.{Keeps, Keeps-refl, Keeps-trans}
 use Rattle.law_contents.proofs.Pieces.{intents_keep, unlink_keeps, wishes_keep}

@@ -1,16 +1,16 @@
 -- What a server holds of one file's content: the state of the versions that it took. A write, a
 -- version that comes, and another server's write keep it so.
 use Rattle.std.proofs.Common.{[], ℕ, ◌≡◌, ◌≤◌, true, cond, List, ◌∷◌, map, refl, sym, ap, subst, ◌∙◌, inl, inr, ◌↔◌, arith}
-use Rattle.law_order.specs.pg_base.declared.policy.Policy.{Policy}
-use Rattle.law_order.specs.pg_base.declared.stamp.Stamp.{Stamp}
-use Rattle.law_order.specs.pg_base.Version.{VersionValue, actor_of, stamp_of}
-use Rattle.law_order.specs.pg_content.Content.{Among, ContentValue, is_covered, joined_content, put_version, written}
-use Rattle.law_order.specs.pg_content.History.{IsAncestor, IsHistory, Made, maker, version_of}
-use Rattle.law_order.specs.pg_content.StandsFor.{InStrictOrder, StandsFor}
-use Rattle.law_order.proofs.pg_content.Standing.{stands_same}
-use Rattle.law_order.proofs.pg_content.StandsJoined.{stands_joined}
-use Rattle.law_order.proofs.pg_content.StandsWritten.{stands_later, stands_written}
-use Rattle.law_order.specs.pg_run.Journal.{with_ancestors}
+use Rattle.pg_run.specs.pg_base.declared.policy.Policy.{Policy}
+use Rattle.pg_run.specs.pg_base.declared.stamp.Stamp.{Stamp}
+use Rattle.pg_run.specs.pg_base.Version.{VersionValue, actor_of, stamp_of}
+use Rattle.pg_run.specs.pg_content.Content.{Among, ContentValue, is_covered, joined_content, put_version, written}
+use Rattle.pg_run.specs.pg_content.History.{IsAncestor, IsHistory, Made, maker, version_of}
+use Rattle.pg_run.specs.pg_content.StandsFor.{InStrictOrder, StandsFor}
+use Rattle.pg_run.proofs.pg_content.Standing.{stands_same}
+use Rattle.pg_run.proofs.pg_content.StandsJoined.{stands_joined}
+use Rattle.pg_run.proofs.pg_content.StandsWritten.{stands_later, stands_written}
+use Rattle.pg_run.specs.Journal.{with_ancestors}
 use Rattle.law_contents.proofs.Sets.{AreMembers, itself_taken, taken_is, taken_with, taken_within, with_member, within_later}
 
 -- ---- what stands for what was taken

@@ -5,27 +5,27 @@ use Rattle.std.specs.Cmp.{tied_itself}
 use Rattle.std.specs.Option.{option_or}
 use Rattle.std.specs.Ordering.{eq_by_cmp, is_eq}
 use Rattle.std.proofs.lemmas.Bool.{and_from, and_parts, false≢true}
-use Rattle.law_order.specs.pg_announced.declared.announced.Announced.{Announced}
-use Rattle.law_order.specs.pg_announced.declared.announced.NoteKey.{NoteKey}
-use Rattle.law_order.specs.pg_announced.Announced.{AreSorted, NotesValue, key_at, key_cmp, note_at}
-use Rattle.law_order.proofs.pg_announced.Keys.{key_exact, key_total}
-use Rattle.law_order.specs.pg_base.declared.id.FileId.{FileId}
-use Rattle.law_order.specs.pg_base.declared.stamp.Stamp.{Stamp}
-use Rattle.law_order.specs.pg_base.Id.{is_same_file}
-use Rattle.law_order.proofs.pg_base.Orders.{is_eq-true, is_same_file-refl, is_same_file-true}
-use Rattle.law_order.specs.pg_content.History.{is_same_stamp}
-use Rattle.law_order.proofs.pg_content.Stamps.{same_stamp, same_true}
-use Rattle.law_order.specs.pg_msg.declared.message.Ends.{Ends}
-use Rattle.law_order.specs.pg_msg.declared.message.Message.TheVariants as message
-use Rattle.law_order.specs.pg_msg.declared.message.Sent.{Sent}
-use Rattle.law_order.specs.pg_msg.declared.message.Wanted.{Wanted}
-use Rattle.law_order.specs.pg_run.Asking.{Asked, is_version, last_wanted, wanted_by}
-use Rattle.law_order.specs.pg_store.declared.store.Store.{Store}
-use Rattle.law_order.specs.pg_store.Seen.{removed_of}
-use Rattle.law_order.specs.pg_pieces.Done.{Done}
-use Rattle.law_order.specs.pg_pieces.Posting.{sent_to}
-use Rattle.law_order.specs.theory_bodies.Asked.{AskStep, Asking, asking_of}
-use Rattle.law_order.specs.theory_bodies.Protocol.{Note}
+use Rattle.pg_run.specs.pg_announced.declared.announced.Announced.{Announced}
+use Rattle.pg_run.specs.pg_announced.declared.announced.NoteKey.{NoteKey}
+use Rattle.pg_run.specs.pg_announced.Announced.{AreSorted, NotesValue, key_at, key_cmp, note_at}
+use Rattle.pg_run.proofs.pg_announced.Keys.{key_exact, key_total}
+use Rattle.pg_run.specs.pg_base.declared.id.FileId.{FileId}
+use Rattle.pg_run.specs.pg_base.declared.stamp.Stamp.{Stamp}
+use Rattle.pg_run.specs.pg_base.Id.{is_same_file}
+use Rattle.pg_run.proofs.pg_base.Orders.{is_eq-true, is_same_file-refl, is_same_file-true}
+use Rattle.pg_run.specs.pg_content.History.{is_same_stamp}
+use Rattle.pg_run.proofs.pg_content.Stamps.{same_stamp, same_true}
+use Rattle.pg_run.specs.pg_msg.declared.message.Ends.{Ends}
+use Rattle.pg_run.specs.pg_msg.declared.message.Message.TheVariants as message
+use Rattle.pg_run.specs.pg_msg.declared.message.Sent.{Sent}
+use Rattle.pg_run.specs.pg_msg.declared.message.Wanted.{Wanted}
+use Rattle.pg_run.specs.Asking.{Asked, is_version, last_wanted, wanted_by}
+use Rattle.pg_run.specs.pg_store.declared.store.Store.{Store}
+use Rattle.pg_run.specs.pg_store.Seen.{removed_of}
+use Rattle.pg_run.specs.pg_pieces.Done.{Done}
+use Rattle.pg_run.specs.pg_pieces.Posting.{sent_to}
+use Rattle.pg_run.specs.theory_bodies.Asked.{AskStep, Asking, asking_of}
+use Rattle.pg_run.specs.theory_bodies.Protocol.{Note}
 use Rattle.law_contents.proofs.Changes.{Alters, AreOpen, Core, Covers, IsOpen, Keeps, by_altered, core_at, keeps_open, noted_at}
 use Rattle.law_contents.proofs.NotesCome.{noted_of}
 use Rattle.law_contents.proofs.Servers.{note_of}

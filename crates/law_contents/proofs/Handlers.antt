@@ -2,50 +2,50 @@
 -- content, or the policy of what is held.
 use Rattle.std.proofs.Common.{ℕ, ◌≡◌, ◌&&◌, ◌||◌, ◌==◌, ◌-◌, ◌/◌, ◌%◌, Bool, true, false, cond, not, List, length, slice_get, Option, None, Some, option_map, refl, sym, ap, ◌∙◌}
 use Rattle.std.specs.Prelude.{nat_lt}
-use Rattle.law_order.specs.pg_base.declared.id.FileId.{FileId}
-use Rattle.law_order.specs.pg_base.declared.policy.Policy.{Policy}
-use Rattle.law_order.specs.pg_base.declared.stamp.Stamp.{Stamp}
-use Rattle.law_order.specs.pg_edges.declared.edge.Edge.{Edge}
-use Rattle.law_order.specs.pg_edges.declared.key.Key.{Key}
-use Rattle.law_order.specs.pg_entries.declared.entry.Entry.{Entry}
-use Rattle.law_order.specs.pg_intent.declared.key.IntentKey.TheVariants as intent_key
-use Rattle.law_order.specs.pg_intent.Intents.{aimed, ended, intent_at}
-use Rattle.law_order.specs.pg_msg.declared.message.Ask.{Ask}
-use Rattle.law_order.specs.pg_msg.declared.message.Ask.TheVariants as ask
-use Rattle.law_order.specs.pg_msg.declared.message.Ends.{Ends}
-use Rattle.law_order.specs.pg_msg.declared.message.Message.TheVariants as message
-use Rattle.law_order.specs.pg_msg.declared.summary.Greeting.TheVariants as greeting
-use Rattle.law_order.specs.pg_msg.declared.work.Work.{Work}
-use Rattle.law_order.specs.pg_names.Names.{fill as fill_names, own_or_blank}
-use Rattle.law_order.specs.pg_replica.declared.replica.Replica.{Replica}
-use Rattle.law_order.specs.pg_run.Journal.{Born}
-use Rattle.law_order.specs.pg_store.declared.store.Store.{Store}
-use Rattle.law_order.specs.pg_store.Beginning.{with_intents}
-use Rattle.law_order.specs.pg_store.Births.{birth_of, fill_at, has_birth, is_pending, wish_at, with_wishes}
-use Rattle.law_order.specs.pg_store.Links.{is_clean, knows_later, unlink}
-use Rattle.law_order.specs.pg_store.Seen.{server_of}
-use Rattle.law_order.specs.pg_store.Servers.{next_target}
-use Rattle.law_order.specs.pg_store.Store.{is_full, is_held, replica_at, with_names}
-use Rattle.law_order.specs.pg_store.Wishes.{aim_wish}
-use Rattle.law_order.specs.pg_pieces.declared.accepting.EdgeUse.{EdgeUse}
-use Rattle.law_order.specs.pg_pieces.declared.accepting.EdgeUse.TheVariants as manner
-use Rattle.law_order.specs.pg_pieces.Accepting.{accept, ends_to as ends_between, is_accepted, is_answer, link_peer, met, with_gone}
-use Rattle.law_order.specs.pg_cells.Acks.{ack}
-use Rattle.law_order.specs.pg_pieces.Done.{Done, idle, link_of}
-use Rattle.law_order.specs.pg_pieces.Making.{raise_flag}
-use Rattle.law_order.specs.pg_pieces.Posting.{reply}
-use Rattle.law_order.specs.pg_pieces.Taking.{take_entry_noted, take_place_noted}
-use Rattle.law_order.specs.pg_house.Work.{is_root}
-use Rattle.law_order.specs.pg_repair.Confirming.{confirm, end_confirmed, is_confirmed, own_entry, place_is, place_told, take_told_flags, take_told_place, confirmed}
-use Rattle.law_order.specs.pg_repair.Fetching.{answered_fetch, ends_to, fetch, give, given, granted_from}
-use Rattle.law_order.specs.pg_repair.Filling.{few_golds, fill, full, invite, invited, is_bronze, live_golds, raise_if_few}
-use Rattle.law_order.specs.pg_repair.Granting.{aim_fill, fill_asks, gone, no_grant, turn_fill, turn_wish, wish_asks}
-use Rattle.law_order.specs.pg_repair.NoneHere.{asking_key, does_ask, none_here, turn}
-use Rattle.law_order.specs.pg_graph.Leaving.{bye, bye_ok, gives_leave, leave, leave_given}
-use Rattle.law_order.specs.pg_graph.Seeking.{answered_seek, seek}
-use Rattle.law_order.specs.pg_graph.Walks.{edges_of, goes_on, meet_origin, most_hops, onward, walk, walk_along, walk_from, walk_of, walk_of_tick, walk_on, walked, with_few_edges}
-use Rattle.law_order.specs.pg_repair.Telling.{end_told, is_told, tell, tell_ok, told}
-use Rattle.law_order.proofs.theory_flood_pieces.Choices.{chosen}
+use Rattle.pg_run.specs.pg_base.declared.id.FileId.{FileId}
+use Rattle.pg_run.specs.pg_base.declared.policy.Policy.{Policy}
+use Rattle.pg_run.specs.pg_base.declared.stamp.Stamp.{Stamp}
+use Rattle.pg_run.specs.pg_edges.declared.edge.Edge.{Edge}
+use Rattle.pg_run.specs.pg_edges.declared.key.Key.{Key}
+use Rattle.pg_run.specs.pg_entries.declared.entry.Entry.{Entry}
+use Rattle.pg_run.specs.pg_intent.declared.key.IntentKey.TheVariants as intent_key
+use Rattle.pg_run.specs.pg_intent.Intents.{aimed, ended, intent_at}
+use Rattle.pg_run.specs.pg_msg.declared.message.Ask.{Ask}
+use Rattle.pg_run.specs.pg_msg.declared.message.Ask.TheVariants as ask
+use Rattle.pg_run.specs.pg_msg.declared.message.Ends.{Ends}
+use Rattle.pg_run.specs.pg_msg.declared.message.Message.TheVariants as message
+use Rattle.pg_run.specs.pg_msg.declared.summary.Greeting.TheVariants as greeting
+use Rattle.pg_run.specs.pg_msg.declared.work.Work.{Work}
+use Rattle.pg_run.specs.pg_names.Names.{fill as fill_names, own_or_blank}
+use Rattle.pg_run.specs.pg_replica.declared.replica.Replica.{Replica}
+use Rattle.pg_run.specs.Journal.{Born}
+use Rattle.pg_run.specs.pg_store.declared.store.Store.{Store}
+use Rattle.pg_run.specs.pg_store.Beginning.{with_intents}
+use Rattle.pg_run.specs.pg_store.Births.{birth_of, fill_at, has_birth, is_pending, wish_at, with_wishes}
+use Rattle.pg_run.specs.pg_store.Links.{is_clean, knows_later, unlink}
+use Rattle.pg_run.specs.pg_store.Seen.{server_of}
+use Rattle.pg_run.specs.pg_store.Servers.{next_target}
+use Rattle.pg_run.specs.pg_store.Store.{is_full, is_held, replica_at, with_names}
+use Rattle.pg_run.specs.pg_store.Wishes.{aim_wish}
+use Rattle.pg_run.specs.pg_pieces.declared.accepting.EdgeUse.{EdgeUse}
+use Rattle.pg_run.specs.pg_pieces.declared.accepting.EdgeUse.TheVariants as manner
+use Rattle.pg_run.specs.pg_pieces.Accepting.{accept, ends_to as ends_between, is_accepted, is_answer, link_peer, met, with_gone}
+use Rattle.pg_run.specs.pg_cells.Acks.{ack}
+use Rattle.pg_run.specs.pg_pieces.Done.{Done, idle, link_of}
+use Rattle.pg_run.specs.pg_pieces.Making.{raise_flag}
+use Rattle.pg_run.specs.pg_pieces.Posting.{reply}
+use Rattle.pg_run.specs.pg_pieces.Taking.{take_entry_noted, take_place_noted}
+use Rattle.pg_run.specs.pg_house.Work.{is_root}
+use Rattle.pg_run.specs.pg_repair.Confirming.{confirm, end_confirmed, is_confirmed, own_entry, place_is, place_told, take_told_flags, take_told_place, confirmed}
+use Rattle.pg_run.specs.pg_repair.Fetching.{answered_fetch, ends_to, fetch, give, given, granted_from}
+use Rattle.pg_run.specs.pg_repair.Filling.{few_golds, fill, full, invite, invited, is_bronze, live_golds, raise_if_few}
+use Rattle.pg_run.specs.pg_repair.Granting.{aim_fill, fill_asks, gone, no_grant, turn_fill, turn_wish, wish_asks}
+use Rattle.pg_run.specs.pg_repair.NoneHere.{asking_key, does_ask, none_here, turn}
+use Rattle.pg_run.specs.pg_graph.Leaving.{bye, bye_ok, gives_leave, leave, leave_given}
+use Rattle.pg_run.specs.pg_graph.Seeking.{answered_seek, seek}
+use Rattle.pg_run.specs.pg_graph.Walks.{edges_of, goes_on, meet_origin, most_hops, onward, walk, walk_along, walk_from, walk_of, walk_of_tick, walk_on, walked, with_few_edges}
+use Rattle.pg_run.specs.pg_repair.Telling.{end_told, is_told, tell, tell_ok, told}
+use Rattle.pg_run.proofs.theory_flood_pieces.Choices.{chosen}
 use Rattle.law_contents.proofs.Changes.{Core, Keeps, Keeps-refl, Keeps-trans, core_at, core_of}
 use Rattle.law_contents.proofs.Pieces.{acked_keeps, fill_keeps, intents_keep, unlink_keeps, wishes_keep}
 use Rattle.law_contents.proofs.Quiet.{Quiet, entry_quiet, flags_quiet, link_quiet, place_quiet, quiet_idle, quiet_last, quiet_post, quiet_posted, quiet_store, quiet_then, raise_quiet}

@@ -2,30 +2,30 @@
 use Rattle.std.proofs.Common.{ℕ, ◌≡◌, ◌<◌, ◌⊎◌, ◌^◌, List, [], ◌++◌, Option, None, Some, option_map, inl, inr, refl, sym, ap, subst, ◌∙◌}
 use Rattle.std.specs.Prelude.{Contains}
 use Rattle.std.proofs.lemmas.List.Elements.{All-contains, Contains-append_right}
-use Rattle.law_order.specs.pg_announced.declared.announced.Announced.{Announced}
-use Rattle.law_order.specs.pg_announced.Announced.{key_at, note_at}
-use Rattle.law_order.specs.pg_base.declared.head.Head.{Head}
-use Rattle.law_order.specs.pg_base.declared.id.FileId.{FileId}
-use Rattle.law_order.specs.pg_base.declared.policy.Policy.{Policy}
-use Rattle.law_order.specs.pg_base.declared.stamp.Stamp.{Stamp}
-use Rattle.law_order.specs.pg_event.declared.entry.VoidCause.{VoidCause}
-use Rattle.law_order.specs.pg_event.declared.event.Event.{Event}
-use Rattle.law_order.specs.pg_msg.declared.message.Message.{Message}
-use Rattle.law_order.specs.pg_msg.declared.message.Message.TheVariants as message
-use Rattle.law_order.specs.pg_msg.declared.message.Sent.{Sent}
-use Rattle.law_order.specs.pg_run.Journal.{Born, mail}
-use Rattle.law_order.specs.pg_run.Noted.{IsAnnounced, SourcesAnnounced}
-use Rattle.law_order.specs.pg_run.Run.{Taking, World, effect_step, idle_step, run, start, taking_in, world_after}
-use Rattle.law_order.proofs.pg_run.Frame.{Acts, HasCome, holds_in_runs, no_server_comes}
-use Rattle.law_order.specs.pg_server.declared.input.Input.{Input}
-use Rattle.law_order.specs.pg_server.declared.input.Input.TheVariants as input
-use Rattle.law_order.specs.pg_server.Local.{effect}
-use Rattle.law_order.specs.pg_store.declared.store.Store.{Store}
-use Rattle.law_order.specs.theory_bodies.Book.{IsBook}
-use Rattle.law_order.specs.theory_bodies.Protocol.{IsAsked, IsNoteIn, Note}
-use Rattle.law_order.specs.theory_bodies.Telling.{Telling}
-use Rattle.law_order.specs.theory_bodies.Telling.Telling.{Announces, Gives, Silent}
-use Rattle.law_order.proofs.theory_bodies.Notes.{note_holds}
+use Rattle.pg_run.specs.pg_announced.declared.announced.Announced.{Announced}
+use Rattle.pg_run.specs.pg_announced.Announced.{key_at, note_at}
+use Rattle.pg_run.specs.pg_base.declared.head.Head.{Head}
+use Rattle.pg_run.specs.pg_base.declared.id.FileId.{FileId}
+use Rattle.pg_run.specs.pg_base.declared.policy.Policy.{Policy}
+use Rattle.pg_run.specs.pg_base.declared.stamp.Stamp.{Stamp}
+use Rattle.pg_run.specs.pg_event.declared.entry.VoidCause.{VoidCause}
+use Rattle.pg_run.specs.pg_event.declared.event.Event.{Event}
+use Rattle.pg_run.specs.pg_msg.declared.message.Message.{Message}
+use Rattle.pg_run.specs.pg_msg.declared.message.Message.TheVariants as message
+use Rattle.pg_run.specs.pg_msg.declared.message.Sent.{Sent}
+use Rattle.pg_run.specs.Journal.{Born, mail}
+use Rattle.pg_run.specs.Noted.{IsAnnounced, SourcesAnnounced}
+use Rattle.pg_run.specs.Run.{Taking, World, effect_step, idle_step, run, start, taking_in, world_after}
+use Rattle.pg_run.proofs.Frame.{Acts, HasCome, holds_in_runs, no_server_comes}
+use Rattle.pg_run.specs.pg_server.declared.input.Input.{Input}
+use Rattle.pg_run.specs.pg_server.declared.input.Input.TheVariants as input
+use Rattle.pg_run.specs.pg_server.Local.{effect}
+use Rattle.pg_run.specs.pg_store.declared.store.Store.{Store}
+use Rattle.pg_run.specs.theory_bodies.Book.{IsBook}
+use Rattle.pg_run.specs.theory_bodies.Protocol.{IsAsked, IsNoteIn, Note}
+use Rattle.pg_run.specs.theory_bodies.Telling.{Telling}
+use Rattle.pg_run.specs.theory_bodies.Telling.Telling.{Announces, Gives, Silent}
+use Rattle.pg_run.proofs.theory_bodies.Notes.{note_holds}
 use Rattle.law_contents.specs.Together.{StandOn}
 use Rattle.law_contents.proofs.AsksInputs.{CarriesInput}
 use Rattle.law_contents.proofs.Carrying.{policies}

@@ -1,21 +1,21 @@
 -- The versions that were made, file by file, and what one more changes.
 use Rattle.std.proofs.Common.{[], ◌≡◌, ◌≤◌, Bool, true, false, cond, List, ◌∷◌, refl, sym, ap, subst, ◌∙◌, inl, inr, arith}
 use Rattle.std.proofs.lemmas.Bool.{cond_both}
-use Rattle.law_order.specs.pg_base.declared.head.Head.{Head}
-use Rattle.law_order.specs.pg_base.declared.id.FileId.{FileId}
-use Rattle.law_order.specs.pg_base.declared.policy.Policy.{Policy}
-use Rattle.law_order.specs.pg_base.declared.stamp.Stamp.{Stamp}
-use Rattle.law_order.specs.pg_base.declared.vector.Actor.{Actor}
-use Rattle.law_order.specs.pg_base.Id.{is_same_file}
-use Rattle.law_order.specs.pg_base.Vector.{number_at}
-use Rattle.law_order.specs.pg_base.Version.{VersionValue}
-use Rattle.law_order.proofs.pg_base.Orders.{is_same_file-true, is_same_file-refl}
-use Rattle.law_order.specs.pg_content.Content.{Among}
-use Rattle.law_order.specs.pg_content.History.{IsAncestor, IsHistory, IsNext, Made, body_of, vector_of, version_of}
-use Rattle.law_order.proofs.pg_content.Numbers.{earlier_vector, member_of}
-use Rattle.law_order.proofs.pg_content.StandsWritten.{earlier_version}
-use Rattle.law_order.specs.theory_bodies.Book.{IsHeadOf}
-use Rattle.law_order.specs.pg_run.Journal.{Born, made_for, made_of}
+use Rattle.pg_run.specs.pg_base.declared.head.Head.{Head}
+use Rattle.pg_run.specs.pg_base.declared.id.FileId.{FileId}
+use Rattle.pg_run.specs.pg_base.declared.policy.Policy.{Policy}
+use Rattle.pg_run.specs.pg_base.declared.stamp.Stamp.{Stamp}
+use Rattle.pg_run.specs.pg_base.declared.vector.Actor.{Actor}
+use Rattle.pg_run.specs.pg_base.Id.{is_same_file}
+use Rattle.pg_run.specs.pg_base.Vector.{number_at}
+use Rattle.pg_run.specs.pg_base.Version.{VersionValue}
+use Rattle.pg_run.proofs.pg_base.Orders.{is_same_file-true, is_same_file-refl}
+use Rattle.pg_run.specs.pg_content.Content.{Among}
+use Rattle.pg_run.specs.pg_content.History.{IsAncestor, IsHistory, IsNext, Made, body_of, vector_of, version_of}
+use Rattle.pg_run.proofs.pg_content.Numbers.{earlier_vector, member_of}
+use Rattle.pg_run.proofs.pg_content.StandsWritten.{earlier_version}
+use Rattle.pg_run.specs.theory_bodies.Book.{IsHeadOf}
+use Rattle.pg_run.specs.Journal.{Born, made_for, made_of}
 
 -- ---- the versions of a file, where one more was made
 

@@ -3,34 +3,34 @@ use Rattle.std.proofs.Common.{ℕ, ◌≡◌, ◌≢◌, ◌==◌, ◌&&◌, Boo
 use Rattle.std.specs.Prelude.{nat_le}
 use Rattle.std.proofs.lemmas.Bool.{and_parts}
 use mathlib.Core.Path.{fun_ext}
-use Rattle.law_order.specs.pg_announced.Announced.{AreSorted}
-use Rattle.law_order.specs.pg_announced.declared.announced.Announced.{Announced}
-use Rattle.law_order.proofs.pg_announced.Sorted.{sorted_none, sorted_released}
-use Rattle.law_order.specs.pg_base.declared.id.FileId.{FileId}
-use Rattle.law_order.specs.pg_base.declared.policy.Policy.{Policy}
-use Rattle.law_order.specs.pg_call.declared.refusal.Refusal.TheVariants.{ClockEnd}
-use Rattle.law_order.specs.pg_call.declared.reply.Reply.TheVariants as reply
-use Rattle.law_order.specs.pg_msg.declared.message.Packet.{Packet}
-use Rattle.law_order.specs.pg_msg.declared.work.Work.{Work}
-use Rattle.law_order.specs.pg_msg.Numbers.{is_in_range}
-use Rattle.law_order.specs.pg_msg.Work.{new_work}
-use Rattle.law_order.specs.pg_register.Flag.{is_removed}
-use Rattle.law_order.specs.pg_run.Asking.{Asked}
-use Rattle.law_order.specs.pg_run.Carried.{carried, gone_by}
-use Rattle.law_order.specs.pg_run.Journal.{Born}
-use Rattle.law_order.specs.pg_run.Run.{removed_then, took_after}
-use Rattle.law_order.specs.pg_run.Took.{Take, take_of, without_gone}
-use Rattle.law_order.specs.pg_store.declared.store.Store.{Store}
-use Rattle.law_order.specs.pg_store.Seen.{removed_of, server_of, view_of}
-use Rattle.law_order.specs.theory_bodies.Telling.Telling.{Silent}
-use Rattle.law_order.specs.pg_store.Servers.{is_live_other}
-use Rattle.law_order.specs.pg_store.Store.{is_before_clock_end}
-use Rattle.law_order.specs.pg_pieces.Done.{Done, idle}
-use Rattle.law_order.specs.pg_cells.Sending.{is_any}
-use Rattle.law_order.specs.pg_cells.Ticks.{tick}
-use Rattle.law_order.specs.pg_intentions.Requests.{ask_all}
-use Rattle.law_order.specs.pg_server.declared.input.Input.TheVariants as input
-use Rattle.law_order.specs.pg_server.Local.{effect, is_heard, receive, sent_again, ticked, without_sources, without_volatile}
+use Rattle.pg_run.specs.pg_announced.Announced.{AreSorted}
+use Rattle.pg_run.specs.pg_announced.declared.announced.Announced.{Announced}
+use Rattle.pg_run.proofs.pg_announced.Sorted.{sorted_none, sorted_released}
+use Rattle.pg_run.specs.pg_base.declared.id.FileId.{FileId}
+use Rattle.pg_run.specs.pg_base.declared.policy.Policy.{Policy}
+use Rattle.pg_run.specs.pg_call.declared.refusal.Refusal.TheVariants.{ClockEnd}
+use Rattle.pg_run.specs.pg_call.declared.reply.Reply.TheVariants as reply
+use Rattle.pg_run.specs.pg_msg.declared.message.Packet.{Packet}
+use Rattle.pg_run.specs.pg_msg.declared.work.Work.{Work}
+use Rattle.pg_run.specs.pg_msg.Numbers.{is_in_range}
+use Rattle.pg_run.specs.pg_msg.Work.{new_work}
+use Rattle.pg_run.specs.pg_register.Flag.{is_removed}
+use Rattle.pg_run.specs.Asking.{Asked}
+use Rattle.pg_run.specs.Carried.{carried, gone_by}
+use Rattle.pg_run.specs.Journal.{Born}
+use Rattle.pg_run.specs.Run.{removed_then, took_after}
+use Rattle.pg_run.specs.Took.{Take, take_of, without_gone}
+use Rattle.pg_run.specs.pg_store.declared.store.Store.{Store}
+use Rattle.pg_run.specs.pg_store.Seen.{removed_of, server_of, view_of}
+use Rattle.pg_run.specs.theory_bodies.Telling.Telling.{Silent}
+use Rattle.pg_run.specs.pg_store.Servers.{is_live_other}
+use Rattle.pg_run.specs.pg_store.Store.{is_before_clock_end}
+use Rattle.pg_run.specs.pg_pieces.Done.{Done, idle}
+use Rattle.pg_run.specs.pg_cells.Sending.{is_any}
+use Rattle.pg_run.specs.pg_cells.Ticks.{tick}
+use Rattle.pg_run.specs.pg_intentions.Requests.{ask_all}
+use Rattle.pg_run.specs.pg_server.declared.input.Input.TheVariants as input
+use Rattle.pg_run.specs.pg_server.Local.{effect, is_heard, receive, sent_again, ticked, without_sources, without_volatile}
 use Rattle.law_contents.proofs.Agreed.{Agrees}
 use Rattle.law_contents.proofs.Asking.{all_asked_carry}
 use Rattle.law_contents.proofs.Carrying.{Carries}

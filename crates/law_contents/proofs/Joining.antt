@@ -1,19 +1,19 @@
 -- A version comes to a file that a server holds, comes again, or is made there: the server stands
 -- for it from then on.
 use Rattle.std.proofs.Common.{[], ℕ, ◌≡◌, ◌≤◌, Bool, true, false, cond, List, ◌∷◌, ◌++◌, Option, Some, refl, sym, subst, inl, inr, arith}
-use Rattle.law_order.specs.pg_base.declared.id.FileId.{FileId}
-use Rattle.law_order.specs.pg_base.declared.policy.Policy.{Policy}
-use Rattle.law_order.specs.pg_base.declared.stamp.Stamp.{Stamp}
-use Rattle.law_order.specs.pg_base.Id.{is_same_file}
-use Rattle.law_order.proofs.pg_base.Orders.{is_same_file-true}
-use Rattle.law_order.specs.pg_content.Content.{Among}
-use Rattle.law_order.specs.pg_content.History.{IsHistory, IsMember, Made}
-use Rattle.law_order.specs.pg_delta.Leading.{AreTrueDeltas}
-use Rattle.law_order.proofs.pg_names.Lookups.{apart_back}
-use Rattle.law_order.proofs.theory_bodies.Computing.{HaveRanges}
-use Rattle.law_order.proofs.pg_content.Numbers.{member_of}
-use Rattle.law_order.specs.pg_run.Journal.{Born, made_for, made_of, with_ancestors}
-use Rattle.law_order.specs.pg_store.declared.store.Store.{Store}
+use Rattle.pg_run.specs.pg_base.declared.id.FileId.{FileId}
+use Rattle.pg_run.specs.pg_base.declared.policy.Policy.{Policy}
+use Rattle.pg_run.specs.pg_base.declared.stamp.Stamp.{Stamp}
+use Rattle.pg_run.specs.pg_base.Id.{is_same_file}
+use Rattle.pg_run.proofs.pg_base.Orders.{is_same_file-true}
+use Rattle.pg_run.specs.pg_content.Content.{Among}
+use Rattle.pg_run.specs.pg_content.History.{IsHistory, IsMember, Made}
+use Rattle.pg_run.specs.pg_delta.Leading.{AreTrueDeltas}
+use Rattle.pg_run.proofs.pg_names.Lookups.{apart_back}
+use Rattle.pg_run.proofs.theory_bodies.Computing.{HaveRanges}
+use Rattle.pg_run.proofs.pg_content.Numbers.{member_of}
+use Rattle.pg_run.specs.Journal.{Born, made_for, made_of, with_ancestors}
+use Rattle.pg_run.specs.pg_store.declared.store.Store.{Store}
 use Rattle.law_contents.proofs.Changes.{Alters, Core, IsOpen, by_altered, core_at, same_notes}
 use Rattle.law_contents.proofs.Files.{HoldsFile, stood_again}
 use Rattle.law_contents.proofs.Histories.{by_file, own_file}

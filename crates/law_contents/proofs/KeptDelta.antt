@@ -2,49 +2,49 @@
 -- does not cover its version.
 use Rattle.std.proofs.Common.{ℕ, ◌≡◌, ◌≢◌, ◌&&◌, ◌==◌, Bool, true, false, not, cond, List, [], ◌∷◌, Option, None, Some, option_map, refl, sym, ap, subst, ◌∙◌}
 use Rattle.std.proofs.lemmas.Bool.Decides.{Decides-eqb}
-use Rattle.law_order.specs.pg_announced.declared.announced.Announced.{Announced}
-use Rattle.law_order.specs.pg_announced.Announced.{is_asked_of as is_noted_of}
-use Rattle.law_order.specs.pg_base.declared.head.Head.{Head}
-use Rattle.law_order.specs.pg_base.declared.id.FileId.{FileId}
-use Rattle.law_order.specs.pg_base.declared.policy.Policy.{Policy}
-use Rattle.law_order.specs.pg_base.declared.stamp.Stamp.{Stamp}
-use Rattle.law_order.specs.pg_base.Id.{is_same_file}
-use Rattle.law_order.specs.pg_base.Version.{actor_of}
-use Rattle.law_order.proofs.pg_base.Orders.{is_same_file-true}
-use Rattle.law_order.specs.pg_content.Content.{Among, ContentValue, is_covered}
-use Rattle.law_order.specs.pg_content.History.{IsHistory, Made, maker, number_of}
-use Rattle.law_order.proofs.pg_content.Heads.{is_covered_by}
-use Rattle.law_order.proofs.pg_content.Standing.{member_covered}
-use Rattle.law_order.specs.pg_delta.declared.delta.KeptDelta.{KeptDelta}
-use Rattle.law_order.specs.pg_delta.Kept.{with_delta}
-use Rattle.law_order.specs.pg_delta.Taking.{delta_to, patched_version, stamps_of}
-use Rattle.law_order.specs.pg_msg.declared.message.Delta.{Delta}
-use Rattle.law_order.specs.pg_msg.declared.message.Ends.{Ends}
-use Rattle.law_order.specs.pg_msg.declared.message.Message.TheVariants as message
-use Rattle.law_order.specs.pg_msg.declared.work.Work.{Work}
-use Rattle.law_order.specs.pg_msg.Work.{new_work}
-use Rattle.law_order.specs.pg_names.Names.{is_dir}
-use Rattle.law_order.proofs.pg_names.Lookups.{apart_back}
-use Rattle.law_order.specs.pg_pieces.declared.accepting.EdgeUse.TheVariants as manner
-use Rattle.law_order.specs.pg_pieces.Accepting.{accept, is_accepted}
-use Rattle.law_order.specs.pg_pieces.Done.{Done, idle}
-use Rattle.law_order.specs.pg_replica.declared.replica.Replica.{Replica}
-use Rattle.law_order.specs.pg_replica.Replica.{with_kept}
-use Rattle.law_order.specs.pg_replica.Replicas.{replicas_keeping}
-use Rattle.law_order.specs.pg_delta.Chain.{are_same_stamps}
-use Rattle.law_order.specs.pg_run.Asking.{Asked, is_asked_of}
-use Rattle.law_order.specs.pg_run.Carried.{delta_carried}
-use Rattle.law_order.specs.pg_run.Deltas.{covers_already, delta_took}
-use Rattle.law_order.specs.pg_run.Journal.{Born, made_for, with_ancestors}
-use Rattle.law_order.specs.pg_run.Quiet.{has_some}
-use Rattle.law_order.specs.pg_run.Took.{Take}
-use Rattle.law_order.specs.pg_run.Took.Take.{TookVersion}
-use Rattle.law_order.specs.pg_server.Local.{receive}
-use Rattle.law_order.specs.pg_server.pg_transfer.Asking.{noted}
-use Rattle.law_order.specs.pg_server.pg_transfer.Delta.{changed, changed_along, changed_by, made_at, made_by, patched, refused, serves}
-use Rattle.law_order.specs.pg_store.declared.store.Store.{Store}
-use Rattle.law_order.specs.pg_store.Store.{content_of, keep_delta, replica_at, take_version}
-use Rattle.law_order.specs.theory_bodies.Book.{IsHeadOf}
+use Rattle.pg_run.specs.pg_announced.declared.announced.Announced.{Announced}
+use Rattle.pg_run.specs.pg_announced.Announced.{is_asked_of as is_noted_of}
+use Rattle.pg_run.specs.pg_base.declared.head.Head.{Head}
+use Rattle.pg_run.specs.pg_base.declared.id.FileId.{FileId}
+use Rattle.pg_run.specs.pg_base.declared.policy.Policy.{Policy}
+use Rattle.pg_run.specs.pg_base.declared.stamp.Stamp.{Stamp}
+use Rattle.pg_run.specs.pg_base.Id.{is_same_file}
+use Rattle.pg_run.specs.pg_base.Version.{actor_of}
+use Rattle.pg_run.proofs.pg_base.Orders.{is_same_file-true}
+use Rattle.pg_run.specs.pg_content.Content.{Among, ContentValue, is_covered}
+use Rattle.pg_run.specs.pg_content.History.{IsHistory, Made, maker, number_of}
+use Rattle.pg_run.proofs.pg_content.Heads.{is_covered_by}
+use Rattle.pg_run.proofs.pg_content.Standing.{member_covered}
+use Rattle.pg_run.specs.pg_delta.declared.delta.KeptDelta.{KeptDelta}
+use Rattle.pg_run.specs.pg_delta.Kept.{with_delta}
+use Rattle.pg_run.specs.pg_delta.Taking.{delta_to, patched_version, stamps_of}
+use Rattle.pg_run.specs.pg_msg.declared.message.Delta.{Delta}
+use Rattle.pg_run.specs.pg_msg.declared.message.Ends.{Ends}
+use Rattle.pg_run.specs.pg_msg.declared.message.Message.TheVariants as message
+use Rattle.pg_run.specs.pg_msg.declared.work.Work.{Work}
+use Rattle.pg_run.specs.pg_msg.Work.{new_work}
+use Rattle.pg_run.specs.pg_names.Names.{is_dir}
+use Rattle.pg_run.proofs.pg_names.Lookups.{apart_back}
+use Rattle.pg_run.specs.pg_pieces.declared.accepting.EdgeUse.TheVariants as manner
+use Rattle.pg_run.specs.pg_pieces.Accepting.{accept, is_accepted}
+use Rattle.pg_run.specs.pg_pieces.Done.{Done, idle}
+use Rattle.pg_run.specs.pg_replica.declared.replica.Replica.{Replica}
+use Rattle.pg_run.specs.pg_replica.Replica.{with_kept}
+use Rattle.pg_run.specs.pg_replica.Replicas.{replicas_keeping}
+use Rattle.pg_run.specs.pg_delta.Chain.{are_same_stamps}
+use Rattle.pg_run.specs.Asking.{Asked, is_asked_of}
+use Rattle.pg_run.specs.Carried.{delta_carried}
+use Rattle.pg_run.specs.Deltas.{covers_already, delta_took}
+use Rattle.pg_run.specs.Journal.{Born, made_for, with_ancestors}
+use Rattle.pg_run.specs.Quiet.{has_some}
+use Rattle.pg_run.specs.Took.{Take}
+use Rattle.pg_run.specs.Took.Take.{TookVersion}
+use Rattle.pg_run.specs.pg_server.Local.{receive}
+use Rattle.pg_run.specs.pg_server.pg_transfer.Asking.{noted}
+use Rattle.pg_run.specs.pg_server.pg_transfer.Delta.{changed, changed_along, changed_by, made_at, made_by, patched, refused, serves}
+use Rattle.pg_run.specs.pg_store.declared.store.Store.{Store}
+use Rattle.pg_run.specs.pg_store.Store.{content_of, keep_delta, replica_at, take_version}
+use Rattle.pg_run.specs.theory_bodies.Book.{IsHeadOf}
 use Rattle.law_contents.proofs.Accepted.{accepted_there, answers_idle}
 use Rattle.law_contents.proofs.Agreed.{Agrees}
 use Rattle.law_contents.proofs.Carrying.{Carries}

@@ -1,53 +1,53 @@
 -- The deltas that replicas keep behind a message: but for a delta that is taken none is kept
 -- besides.
 use Rattle.std.proofs.Common.{ℕ, ◌≡◌, ◌≢◌, ◌&&◌, Bool, true, false, cond, not, List, [], Option, None, Some, is_some, inr, refl, sym, ap, subst, ◌∙◌}
-use Rattle.law_order.specs.pg_announced.declared.announced.Announced.{Announced}
-use Rattle.law_order.specs.pg_announced.Announced.{is_awaited}
-use Rattle.law_order.specs.pg_base.declared.head.Head.{Head}
-use Rattle.law_order.specs.pg_base.declared.id.FileId.{FileId}
-use Rattle.law_order.specs.pg_base.declared.policy.Policy.{Policy}
-use Rattle.law_order.specs.pg_base.declared.stamp.Stamp.{Stamp}
-use Rattle.law_order.specs.pg_base.Id.{is_same_file}
-use Rattle.law_order.proofs.pg_base.Orders.{is_same_file-true}
-use Rattle.law_order.specs.pg_base.Version.{actor_of}
-use Rattle.law_order.specs.pg_content.Content.{is_covered}
-use Rattle.law_order.specs.pg_entries.declared.cell.Cell.{Cell}
-use Rattle.law_order.specs.pg_entries.declared.cell.Cell.TheVariants as cell
-use Rattle.law_order.specs.pg_intent.declared.key.IntentKey.TheVariants as intent_key
-use Rattle.law_order.specs.pg_intent.Intents.{aimed}
-use Rattle.law_order.specs.pg_msg.declared.message.Ends.{Ends}
-use Rattle.law_order.specs.pg_msg.declared.message.Granted.{Granted}
-use Rattle.law_order.specs.pg_msg.declared.message.Message.{Message}
-use Rattle.law_order.specs.pg_msg.declared.message.Message.TheVariants as message
-use Rattle.law_order.specs.pg_msg.declared.message.Piece.{Piece}
-use Rattle.law_order.specs.pg_msg.declared.work.Work.{Work}
-use Rattle.law_order.specs.pg_msg.Work.{new_work}
-use Rattle.law_order.specs.pg_names.Names.{is_dir}
-use Rattle.law_order.proofs.pg_names.Lookups.{apart_back}
-use Rattle.law_order.specs.pg_run.Asked.{goes as goes_off}
-use Rattle.law_order.specs.pg_run.Asking.{Asked}
-use Rattle.law_order.specs.pg_run.Carried.{gone_by}
-use Rattle.law_order.specs.pg_run.Deltas.{deltas_in}
-use Rattle.law_order.specs.pg_run.Journal.{Born}
-use Rattle.law_order.specs.pg_store.declared.store.Store.{Store}
-use Rattle.law_order.specs.pg_store.Beginning.{let_go}
-use Rattle.law_order.specs.pg_store.Births.{birth_of, is_pending}
-use Rattle.law_order.specs.pg_store.Store.{content_of, replica_of}
-use Rattle.law_order.specs.pg_pieces.declared.accepting.EdgeUse.TheVariants as manner
-use Rattle.law_order.specs.pg_pieces.Accepting.{accept, is_accepted, link_peer}
-use Rattle.law_order.specs.pg_pieces.Done.{Done, idle}
-use Rattle.law_order.specs.pg_pieces.Parting.{stays_for}
-use Rattle.law_order.specs.pg_cells.Cells.{fits, taken, taken_along}
-use Rattle.law_order.specs.pg_graph.Leaving.{goes, leave_ok, may_leave, without_leave}
-use Rattle.law_order.specs.pg_server.Local.{receive}
-use Rattle.law_order.specs.pg_repair.Granting.{begin_granted, begun_by, granted_own}
-use Rattle.law_order.specs.pg_server.pg_transfer.declared.piecing.Progress.{Progress}
-use Rattle.law_order.specs.pg_server.pg_transfer.declared.piecing.Progress.TheVariants as progress
-use Rattle.law_order.specs.pg_server.pg_transfer.Asking.{acknowledged, noted, put_off}
-use Rattle.law_order.specs.pg_server.pg_transfer.Harbinger.{heard, heard_beside}
-use Rattle.law_order.specs.pg_server.pg_transfer.Later.{later_along}
-use Rattle.law_order.specs.pg_server.pg_transfer.Piece.{advance, completed, pieced_along, pieced_by, whole, without_noted}
-use Rattle.law_order.proofs.theory_flood_pieces.Choices.{chosen, decided}
+use Rattle.pg_run.specs.pg_announced.declared.announced.Announced.{Announced}
+use Rattle.pg_run.specs.pg_announced.Announced.{is_awaited}
+use Rattle.pg_run.specs.pg_base.declared.head.Head.{Head}
+use Rattle.pg_run.specs.pg_base.declared.id.FileId.{FileId}
+use Rattle.pg_run.specs.pg_base.declared.policy.Policy.{Policy}
+use Rattle.pg_run.specs.pg_base.declared.stamp.Stamp.{Stamp}
+use Rattle.pg_run.specs.pg_base.Id.{is_same_file}
+use Rattle.pg_run.proofs.pg_base.Orders.{is_same_file-true}
+use Rattle.pg_run.specs.pg_base.Version.{actor_of}
+use Rattle.pg_run.specs.pg_content.Content.{is_covered}
+use Rattle.pg_run.specs.pg_entries.declared.cell.Cell.{Cell}
+use Rattle.pg_run.specs.pg_entries.declared.cell.Cell.TheVariants as cell
+use Rattle.pg_run.specs.pg_intent.declared.key.IntentKey.TheVariants as intent_key
+use Rattle.pg_run.specs.pg_intent.Intents.{aimed}
+use Rattle.pg_run.specs.pg_msg.declared.message.Ends.{Ends}
+use Rattle.pg_run.specs.pg_msg.declared.message.Granted.{Granted}
+use Rattle.pg_run.specs.pg_msg.declared.message.Message.{Message}
+use Rattle.pg_run.specs.pg_msg.declared.message.Message.TheVariants as message
+use Rattle.pg_run.specs.pg_msg.declared.message.Piece.{Piece}
+use Rattle.pg_run.specs.pg_msg.declared.work.Work.{Work}
+use Rattle.pg_run.specs.pg_msg.Work.{new_work}
+use Rattle.pg_run.specs.pg_names.Names.{is_dir}
+use Rattle.pg_run.proofs.pg_names.Lookups.{apart_back}
+use Rattle.pg_run.specs.Asked.{goes as goes_off}
+use Rattle.pg_run.specs.Asking.{Asked}
+use Rattle.pg_run.specs.Carried.{gone_by}
+use Rattle.pg_run.specs.Deltas.{deltas_in}
+use Rattle.pg_run.specs.Journal.{Born}
+use Rattle.pg_run.specs.pg_store.declared.store.Store.{Store}
+use Rattle.pg_run.specs.pg_store.Beginning.{let_go}
+use Rattle.pg_run.specs.pg_store.Births.{birth_of, is_pending}
+use Rattle.pg_run.specs.pg_store.Store.{content_of, replica_of}
+use Rattle.pg_run.specs.pg_pieces.declared.accepting.EdgeUse.TheVariants as manner
+use Rattle.pg_run.specs.pg_pieces.Accepting.{accept, is_accepted, link_peer}
+use Rattle.pg_run.specs.pg_pieces.Done.{Done, idle}
+use Rattle.pg_run.specs.pg_pieces.Parting.{stays_for}
+use Rattle.pg_run.specs.pg_cells.Cells.{fits, taken, taken_along}
+use Rattle.pg_run.specs.pg_graph.Leaving.{goes, leave_ok, may_leave, without_leave}
+use Rattle.pg_run.specs.pg_server.Local.{receive}
+use Rattle.pg_run.specs.pg_repair.Granting.{begin_granted, begun_by, granted_own}
+use Rattle.pg_run.specs.pg_server.pg_transfer.declared.piecing.Progress.{Progress}
+use Rattle.pg_run.specs.pg_server.pg_transfer.declared.piecing.Progress.TheVariants as progress
+use Rattle.pg_run.specs.pg_server.pg_transfer.Asking.{acknowledged, noted, put_off}
+use Rattle.pg_run.specs.pg_server.pg_transfer.Harbinger.{heard, heard_beside}
+use Rattle.pg_run.specs.pg_server.pg_transfer.Later.{later_along}
+use Rattle.pg_run.specs.pg_server.pg_transfer.Piece.{advance, completed, pieced_along, pieced_by, whole, without_noted}
+use Rattle.pg_run.proofs.theory_flood_pieces.Choices.{chosen, decided}
 use Rattle.law_contents.proofs.Accepted.{answers_idle}
 use Rattle.law_contents.proofs.Agreed.{Agrees}
 use Rattle.law_contents.proofs.Carrying.{Carries}

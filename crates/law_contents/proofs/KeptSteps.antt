@@ -3,24 +3,24 @@
 use Rattle.std.proofs.Common.{ℕ, ◌≡◌, ◌⊎◌, Bool, true, false, cond, List, [], ◌∷◌, ◌++◌, map, Option, None, Some, option_map, inl, inr, refl, sym, ap, subst, ◌∙◌}
 use Rattle.std.specs.List.{filter}
 use Rattle.std.proofs.lemmas.List.{append_assoc, append-nil}
-use Rattle.law_order.specs.pg_base.declared.id.FileId.{FileId}
-use Rattle.law_order.specs.pg_base.declared.policy.Policy.{Policy}
-use Rattle.law_order.specs.pg_base.Id.{is_same_file}
-use Rattle.law_order.specs.pg_base.Version.{VersionValue}
-use Rattle.law_order.proofs.pg_base.Orders.{is_same_file-refl}
-use Rattle.law_order.specs.pg_content.Content.{joined_content}
-use Rattle.law_order.specs.pg_delta.declared.delta.KeptDelta.{KeptDelta}
-use Rattle.law_order.specs.pg_delta.Kept.{kept_deltas, with_delta}
-use Rattle.law_order.proofs.pg_delta.Ends.{kept_next}
-use Rattle.law_order.specs.pg_msg.declared.update.MadeVersion.{MadeVersion}
-use Rattle.law_order.specs.pg_msg.declared.update.Update.{Update}
-use Rattle.law_order.proofs.pg_names.Lookups.{apart_back}
-use Rattle.law_order.specs.pg_replica.declared.replica.Replica.{Replica}
-use Rattle.law_order.specs.pg_replica.Replicas.{takes_version}
-use Rattle.law_order.specs.pg_run.Deltas.{delta_made, deltas_made}
-use Rattle.law_order.specs.pg_run.Journal.{versions_in}
-use Rattle.law_order.specs.pg_store.declared.store.Store.{Store}
-use Rattle.law_order.specs.pg_store.Store.{put_version, replica_at, take_version}
+use Rattle.pg_run.specs.pg_base.declared.id.FileId.{FileId}
+use Rattle.pg_run.specs.pg_base.declared.policy.Policy.{Policy}
+use Rattle.pg_run.specs.pg_base.Id.{is_same_file}
+use Rattle.pg_run.specs.pg_base.Version.{VersionValue}
+use Rattle.pg_run.proofs.pg_base.Orders.{is_same_file-refl}
+use Rattle.pg_run.specs.pg_content.Content.{joined_content}
+use Rattle.pg_run.specs.pg_delta.declared.delta.KeptDelta.{KeptDelta}
+use Rattle.pg_run.specs.pg_delta.Kept.{kept_deltas, with_delta}
+use Rattle.pg_run.proofs.pg_delta.Ends.{kept_next}
+use Rattle.pg_run.specs.pg_msg.declared.update.MadeVersion.{MadeVersion}
+use Rattle.pg_run.specs.pg_msg.declared.update.Update.{Update}
+use Rattle.pg_run.proofs.pg_names.Lookups.{apart_back}
+use Rattle.pg_run.specs.pg_replica.declared.replica.Replica.{Replica}
+use Rattle.pg_run.specs.pg_replica.Replicas.{takes_version}
+use Rattle.pg_run.specs.Deltas.{delta_made, deltas_made}
+use Rattle.pg_run.specs.Journal.{versions_in}
+use Rattle.pg_run.specs.pg_store.declared.store.Store.{Store}
+use Rattle.pg_run.specs.pg_store.Store.{put_version, replica_at, take_version}
 use Rattle.law_contents.proofs.Changes.{Alters, Core, Keeps, by_altered, core_at, core_of, new_core}
 use Rattle.law_contents.proofs.Versions.{version_alters}
 

@@ -70,20 +70,4 @@ pub mod KeptRuns
 pub mod RunLaws
 pub mod Recorded
 pub mod Clocks
-pub use Rattle.law_order.proofs.pg_base as pg_base
-pub use Rattle.law_order.proofs.pg_register as pg_register
-pub use Rattle.law_order.proofs.pg_names as pg_names
-pub use Rattle.law_order.proofs.pg_content as pg_content
-pub use Rattle.law_order.proofs.pg_delta as pg_delta
-pub use Rattle.law_order.proofs.pg_announced as pg_announced
-pub use Rattle.law_order.proofs.theory_bodies as theory_bodies
-pub use Rattle.law_order.proofs.theory_flood as theory_flood
-pub use Rattle.law_order.proofs.pg_house as pg_house
-pub use Rattle.law_order.proofs.pg_store as pg_store
-pub use Rattle.law_order.proofs.pg_cells as pg_cells
-pub use Rattle.law_order.proofs.pg_graph as pg_graph
-pub use Rattle.law_order.proofs.pg_intentions as pg_intentions
-pub use Rattle.law_order.proofs.theory_flood_pieces as theory_flood_pieces
-pub use Rattle.law_order.proofs.pg_calls as pg_calls
-pub use Rattle.law_order.proofs.pg_run as pg_run
 pub use Rattle.law_order.proofs as law_order

@@ -1,31 +1,31 @@
 -- What was lost is given up: no version is made; and where a directory begins anew, none was made
 -- of its birth.
 use Rattle.std.proofs.Common.{ℕ, ◌≡◌, ◌+◌, ◌&&◌, Bool, true, false, cond, not, List, [], ◌∷◌, ◌++◌, map, Option, None, Some, refl, sym, ap, ◌∙◌, inl}
-use Rattle.law_order.specs.pg_base.declared.id.FileId.{FileId}
-use Rattle.law_order.specs.pg_base.declared.policy.Policy.{Policy}
-use Rattle.law_order.specs.pg_base.declared.policy.Policy.TheVariants.{Last}
-use Rattle.law_order.specs.pg_base.declared.stamp.Stamp.{Stamp}
-use Rattle.law_order.specs.pg_intent.declared.key.IntentKey.TheVariants as intent_key
-use Rattle.law_order.specs.pg_intent.Intents.{ended}
-use Rattle.law_order.specs.pg_msg.declared.update.Update.TheVariants as update
-use Rattle.law_order.specs.pg_msg.declared.work.Work.{Work}
-use Rattle.law_order.specs.pg_msg.Work.{new_work, with_made}
-use Rattle.law_order.specs.pg_names.declared.attributes.Attributes.{Attributes}
-use Rattle.law_order.specs.pg_names.Names.{blank_own, is_dir}
-use Rattle.law_order.specs.pg_register.declared.place.Place.{Place}
-use Rattle.law_order.specs.pg_run.Carried.{anew_takes, known_takes, patch_taken, patches_taken, struck_by, struck_takes}
-use Rattle.law_order.specs.pg_run.Journal.{Born}
-use Rattle.law_order.specs.pg_run.Took.{Take, take_of}
-use Rattle.law_order.specs.pg_run.Took.Take.{Began, TookPlace}
-use Rattle.law_order.specs.pg_run.Took.Taker.{InDir}
-use Rattle.law_order.specs.pg_store.declared.store.Store.{Store}
-use Rattle.law_order.specs.pg_store.Births.{draw_birth, with_birth}
-use Rattle.law_order.specs.pg_store.Store.{is_held}
-use Rattle.law_order.specs.pg_store.Wishes.{without_wish}
-use Rattle.law_order.specs.pg_pieces.Done.{Done, idle}
-use Rattle.law_order.specs.pg_calls.Forgetting.{bare_entry, begin_lost, begun_at, begun_with, dead_at, dirs_of, fill_lost, has_blank_place, is_wanted, last_listing, last_place, mark, marked_each, placed_in_root, placed_lost, root_place, strike_out, struck_out, unfilled, unwished}
-use Rattle.law_order.specs.pg_calls.Naming.{raised}
-use Rattle.law_order.proofs.theory_flood_pieces.Choices.{chosen}
+use Rattle.pg_run.specs.pg_base.declared.id.FileId.{FileId}
+use Rattle.pg_run.specs.pg_base.declared.policy.Policy.{Policy}
+use Rattle.pg_run.specs.pg_base.declared.policy.Policy.TheVariants.{Last}
+use Rattle.pg_run.specs.pg_base.declared.stamp.Stamp.{Stamp}
+use Rattle.pg_run.specs.pg_intent.declared.key.IntentKey.TheVariants as intent_key
+use Rattle.pg_run.specs.pg_intent.Intents.{ended}
+use Rattle.pg_run.specs.pg_msg.declared.update.Update.TheVariants as update
+use Rattle.pg_run.specs.pg_msg.declared.work.Work.{Work}
+use Rattle.pg_run.specs.pg_msg.Work.{new_work, with_made}
+use Rattle.pg_run.specs.pg_names.declared.attributes.Attributes.{Attributes}
+use Rattle.pg_run.specs.pg_names.Names.{blank_own, is_dir}
+use Rattle.pg_run.specs.pg_register.declared.place.Place.{Place}
+use Rattle.pg_run.specs.Carried.{anew_takes, known_takes, patch_taken, patches_taken, struck_by, struck_takes}
+use Rattle.pg_run.specs.Journal.{Born}
+use Rattle.pg_run.specs.Took.{Take, take_of}
+use Rattle.pg_run.specs.Took.Take.{Began, TookPlace}
+use Rattle.pg_run.specs.Took.Taker.{InDir}
+use Rattle.pg_run.specs.pg_store.declared.store.Store.{Store}
+use Rattle.pg_run.specs.pg_store.Births.{draw_birth, with_birth}
+use Rattle.pg_run.specs.pg_store.Store.{is_held}
+use Rattle.pg_run.specs.pg_store.Wishes.{without_wish}
+use Rattle.pg_run.specs.pg_pieces.Done.{Done, idle}
+use Rattle.pg_run.specs.pg_calls.Forgetting.{bare_entry, begin_lost, begun_at, begun_with, dead_at, dirs_of, fill_lost, has_blank_place, is_wanted, last_listing, last_place, mark, marked_each, placed_in_root, placed_lost, root_place, strike_out, struck_out, unfilled, unwished}
+use Rattle.pg_run.specs.pg_calls.Naming.{raised}
+use Rattle.pg_run.proofs.theory_flood_pieces.Choices.{chosen}
 use Rattle.law_contents.proofs.Arrivals.{Arrives, more_came, patch_none, quiet_arrives}
 use Rattle.law_contents.proofs.Changes.{Alters, Core, Keeps-trans, alters_keeps, by_altered, core_at, keeps_alters, new_core}
 use Rattle.law_contents.proofs.Handlers.{fill_quiet}

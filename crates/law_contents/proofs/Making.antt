@@ -1,39 +1,39 @@
 -- A version is made of what is held of a file, as a client writes it.
 use Rattle.std.proofs.Common.{ℕ, ◌≡◌, ◌<◌, ◌≤◌, ◌+◌, ◌^◌, true, cond, length, max, min, List, [], ◌∷◌, ◌++◌, map, Option, Some, Ok, option_map, refl, sym, ap, subst, ◌∙◌, inl, inr, ◌⊎◌, arith}
 use Rattle.std.proofs.lemmas.List.{append-nil}
-use Rattle.law_order.specs.pg_base.declared.id.FileId.{FileId}
-use Rattle.law_order.specs.pg_base.declared.policy.Policy.{Policy}
-use Rattle.law_order.specs.pg_base.declared.stamp.Stamp.{Stamp}
-use Rattle.law_order.specs.pg_base.Id.{is_same_file}
-use Rattle.law_order.specs.pg_base.Version.{VersionValue, stamp_of}
-use Rattle.law_order.specs.pg_patch.Ranges.{IsRanges, RangesValue}
-use Rattle.law_order.specs.pg_content.Content.{Among, ContentValue, body_limit, next_length, next_version}
-use Rattle.law_order.specs.pg_content.History.{Made, body_of, maker}
-use Rattle.law_order.proofs.pg_content.StandsWritten.{earlier_version}
-use Rattle.law_order.specs.pg_delta.Kept.{with_delta}
-use Rattle.law_order.specs.pg_delta.Leading.{AreTrueDeltas, IsTrueDelta}
-use Rattle.law_order.specs.pg_delta.Taking.{delta_to, stamps_of}
-use Rattle.law_order.proofs.pg_delta.Leads.{true_made}
-use Rattle.law_order.proofs.theory_bodies.Computing.{HaveRanges}
-use Rattle.law_order.proofs.theory_bodies.Holdings.{deltas_with}
-use Rattle.law_order.specs.pg_call.declared.reply.Reply.TheVariants as reply
-use Rattle.law_order.specs.pg_msg.declared.update.MadeVersion.{MadeVersion}
-use Rattle.law_order.specs.pg_msg.Work.{new_work}
-use Rattle.law_order.specs.pg_replica.declared.replica.Replica.{Replica}
-use Rattle.law_order.specs.pg_replica.Replicas.{or_nothing}
-use Rattle.law_order.specs.pg_run.Journal.{Born, made_for, made_of, versions_in}
-use Rattle.law_order.specs.pg_run.Took.{stamps_taken, take_of}
-use Rattle.law_order.specs.pg_names.Names.{is_dir}
-use Rattle.law_order.specs.pg_store.declared.store.Store.{Store}
-use Rattle.law_order.specs.pg_store.Seen.{server_of}
-use Rattle.law_order.specs.pg_store.Store.{content_of, is_before_clock_end, replica_at, write}
-use Rattle.law_order.proofs.pg_store.InTime.{births_in_time, last_in_time}
-use Rattle.law_order.specs.pg_pieces.Done.{idle}
-use Rattle.law_order.specs.pg_checks.Answer.{Answer, answer}
-use Rattle.law_order.specs.pg_checks.Checks.{file_at}
-use Rattle.law_order.specs.pg_calls.Making.{drawn, make_version, version_of}
-use Rattle.law_order.proofs.pg_calls.InTime.{file_in_time}
-use Rattle.law_order.proofs.pg_calls.Walked.{file_found, full_held}
+use Rattle.pg_run.specs.pg_base.declared.id.FileId.{FileId}
+use Rattle.pg_run.specs.pg_base.declared.policy.Policy.{Policy}
+use Rattle.pg_run.specs.pg_base.declared.stamp.Stamp.{Stamp}
+use Rattle.pg_run.specs.pg_base.Id.{is_same_file}
+use Rattle.pg_run.specs.pg_base.Version.{VersionValue, stamp_of}
+use Rattle.pg_run.specs.pg_patch.Ranges.{IsRanges, RangesValue}
+use Rattle.pg_run.specs.pg_content.Content.{Among, ContentValue, body_limit, next_length, next_version}
+use Rattle.pg_run.specs.pg_content.History.{Made, body_of, maker}
+use Rattle.pg_run.proofs.pg_content.StandsWritten.{earlier_version}
+use Rattle.pg_run.specs.pg_delta.Kept.{with_delta}
+use Rattle.pg_run.specs.pg_delta.Leading.{AreTrueDeltas, IsTrueDelta}
+use Rattle.pg_run.specs.pg_delta.Taking.{delta_to, stamps_of}
+use Rattle.pg_run.proofs.pg_delta.Leads.{true_made}
+use Rattle.pg_run.proofs.theory_bodies.Computing.{HaveRanges}
+use Rattle.pg_run.proofs.theory_bodies.Holdings.{deltas_with}
+use Rattle.pg_run.specs.pg_call.declared.reply.Reply.TheVariants as reply
+use Rattle.pg_run.specs.pg_msg.declared.update.MadeVersion.{MadeVersion}
+use Rattle.pg_run.specs.pg_msg.Work.{new_work}
+use Rattle.pg_run.specs.pg_replica.declared.replica.Replica.{Replica}
+use Rattle.pg_run.specs.pg_replica.Replicas.{or_nothing}
+use Rattle.pg_run.specs.Journal.{Born, made_for, made_of, versions_in}
+use Rattle.pg_run.specs.Took.{stamps_taken, take_of}
+use Rattle.pg_run.specs.pg_names.Names.{is_dir}
+use Rattle.pg_run.specs.pg_store.declared.store.Store.{Store}
+use Rattle.pg_run.specs.pg_store.Seen.{server_of}
+use Rattle.pg_run.specs.pg_store.Store.{content_of, is_before_clock_end, replica_at, write}
+use Rattle.pg_run.proofs.pg_store.InTime.{births_in_time, last_in_time}
+use Rattle.pg_run.specs.pg_pieces.Done.{idle}
+use Rattle.pg_run.specs.pg_checks.Answer.{Answer, answer}
+use Rattle.pg_run.specs.pg_checks.Checks.{file_at}
+use Rattle.pg_run.specs.pg_calls.Making.{drawn, make_version, version_of}
+use Rattle.pg_run.proofs.pg_calls.InTime.{file_in_time}
+use Rattle.pg_run.proofs.pg_calls.Walked.{file_found, full_held}
 use Rattle.law_contents.proofs.Changes.{Core, IsOrdered, by_altered, core_at, core_of, replica_of_core}
 use Rattle.law_contents.proofs.Files.{HoldsFile, held_version}
 use Rattle.law_contents.proofs.Histories.{AreMade, IsNextUpdate, by_file}

@@ -4,28 +4,28 @@ use Rattle.std.proofs.Common.{ℕ, ◌≡◌, ◌⊎◌, ◌+◌, ◌&&◌, ◌=
 use Rattle.std.specs.Prelude.{nat_le}
 use Rattle.std.proofs.lemmas.Bool.{and_parts}
 use Rattle.std.proofs.lemmas.Bool.Decides.{Decides-eqb}
-use Rattle.law_order.specs.pg_announced.declared.announced.Announced.{Announced}
-use Rattle.law_order.specs.pg_announced.declared.announced.NoteKey.{NoteKey}
-use Rattle.law_order.specs.pg_announced.Announced.{AreSorted, NotesValue, aimed, change_note, emptied, is_asked_of, is_awaited, key_at, longer, lose_note, new_note, note_at, put_note, released, unasked}
-use Rattle.law_order.proofs.pg_announced.Found.{changed_found, put_found, released_found}
-use Rattle.law_order.specs.pg_base.declared.head.Head.{Head}
-use Rattle.law_order.specs.pg_base.declared.id.FileId.{FileId}
-use Rattle.law_order.specs.pg_base.declared.stamp.Stamp.{Stamp}
-use Rattle.law_order.specs.pg_base.Version.{actor_of}
-use Rattle.law_order.specs.pg_content.Content.{is_covered}
-use Rattle.law_order.specs.pg_msg.declared.message.Ends.{Ends}
-use Rattle.law_order.specs.pg_msg.declared.message.Piece.{Piece}
-use Rattle.law_order.specs.pg_msg.declared.work.Work.{Work}
-use Rattle.law_order.specs.pg_pieces.Done.{Done, idle}
-use Rattle.law_order.specs.pg_store.declared.store.Store.{Store}
-use Rattle.law_order.specs.pg_store.Store.{content_of}
-use Rattle.law_order.specs.pg_server.pg_transfer.Asking.{acknowledged, noted, put_off}
-use Rattle.law_order.specs.pg_server.pg_transfer.Harbinger.{heard, heard_beside}
-use Rattle.law_order.specs.pg_server.pg_transfer.Piece.{is_next}
-use Rattle.law_order.specs.theory_bodies.Protocol.{Note}
-use Rattle.law_order.specs.theory_bodies.Rule.{NoteComes}
-use Rattle.law_order.specs.theory_bodies.Telling.{Telling}
-use Rattle.law_order.specs.theory_bodies.Telling.Telling.{Announces, Gives}
+use Rattle.pg_run.specs.pg_announced.declared.announced.Announced.{Announced}
+use Rattle.pg_run.specs.pg_announced.declared.announced.NoteKey.{NoteKey}
+use Rattle.pg_run.specs.pg_announced.Announced.{AreSorted, NotesValue, aimed, change_note, emptied, is_asked_of, is_awaited, key_at, longer, lose_note, new_note, note_at, put_note, released, unasked}
+use Rattle.pg_run.proofs.pg_announced.Found.{changed_found, put_found, released_found}
+use Rattle.pg_run.specs.pg_base.declared.head.Head.{Head}
+use Rattle.pg_run.specs.pg_base.declared.id.FileId.{FileId}
+use Rattle.pg_run.specs.pg_base.declared.stamp.Stamp.{Stamp}
+use Rattle.pg_run.specs.pg_base.Version.{actor_of}
+use Rattle.pg_run.specs.pg_content.Content.{is_covered}
+use Rattle.pg_run.specs.pg_msg.declared.message.Ends.{Ends}
+use Rattle.pg_run.specs.pg_msg.declared.message.Piece.{Piece}
+use Rattle.pg_run.specs.pg_msg.declared.work.Work.{Work}
+use Rattle.pg_run.specs.pg_pieces.Done.{Done, idle}
+use Rattle.pg_run.specs.pg_store.declared.store.Store.{Store}
+use Rattle.pg_run.specs.pg_store.Store.{content_of}
+use Rattle.pg_run.specs.pg_server.pg_transfer.Asking.{acknowledged, noted, put_off}
+use Rattle.pg_run.specs.pg_server.pg_transfer.Harbinger.{heard, heard_beside}
+use Rattle.pg_run.specs.pg_server.pg_transfer.Piece.{is_next}
+use Rattle.pg_run.specs.theory_bodies.Protocol.{Note}
+use Rattle.pg_run.specs.theory_bodies.Rule.{NoteComes}
+use Rattle.pg_run.specs.theory_bodies.Telling.{Telling}
+use Rattle.pg_run.specs.theory_bodies.Telling.Telling.{Announces, Gives}
 use Rattle.law_contents.proofs.Servers.{note_of}
 
 abbrev pub noted_of : NotesValue → FileId → Stamp → Option Note

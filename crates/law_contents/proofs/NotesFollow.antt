@@ -2,41 +2,41 @@
 -- heard.
 use Rattle.std.proofs.Common.{ℕ, ◌≡◌, Bool, true, false, cond, not, List, length, ◌+◌, Option, None, Some, refl, sym, subst, ◌∙◌}
 use Rattle.std.proofs.lemmas.List.Elements.{All-nil}
-use Rattle.law_order.specs.pg_announced.declared.announced.Announced.{Announced}
-use Rattle.law_order.specs.pg_announced.declared.announced.NoteKey.{NoteKey}
-use Rattle.law_order.specs.pg_announced.Announced.{AreSorted, NotesValue, is_asked_of, is_over, key_at, note_at}
-use Rattle.law_order.proofs.pg_announced.Found.{kept_found, without_found}
-use Rattle.law_order.proofs.pg_announced.Sorted.{sorted_without}
-use Rattle.law_order.specs.pg_base.declared.head.Head.{Head}
-use Rattle.law_order.specs.pg_base.declared.id.FileId.{FileId}
-use Rattle.law_order.specs.pg_base.declared.policy.Policy.{Policy}
-use Rattle.law_order.specs.pg_base.declared.stamp.Stamp.{Stamp}
-use Rattle.law_order.specs.pg_base.Version.{VersionValue}
-use Rattle.law_order.specs.pg_delta.Taking.{delta_to}
-use Rattle.law_order.specs.pg_msg.declared.message.Delta.{Delta}
-use Rattle.law_order.specs.pg_msg.declared.message.Ends.{Ends}
-use Rattle.law_order.specs.pg_msg.declared.message.Piece.{Piece}
-use Rattle.law_order.specs.pg_msg.declared.message.Sent.{Sent}
-use Rattle.law_order.specs.pg_msg.declared.work.Work.{Work}
-use Rattle.law_order.specs.pg_msg.Work.{new_work}
-use Rattle.law_order.specs.pg_names.Names.{is_dir}
-use Rattle.law_order.specs.pg_pieces.declared.accepting.EdgeUse.TheVariants as manner
-use Rattle.law_order.specs.pg_pieces.Accepting.{accept, is_accepted}
-use Rattle.law_order.specs.pg_pieces.Done.{Done, idle}
-use Rattle.law_order.specs.pg_replica.declared.replica.Replica.{Replica}
-use Rattle.law_order.specs.pg_run.Journal.{Born}
-use Rattle.law_order.proofs.pg_run.Sends.{accept_fine}
-use Rattle.law_order.specs.pg_server.pg_transfer.declared.piecing.Progress.TheVariants as progress
-use Rattle.law_order.specs.pg_server.pg_transfer.Asking.{noted}
-use Rattle.law_order.specs.pg_server.pg_transfer.Delta.{changed_along, changed_by, delta, made_by}
-use Rattle.law_order.specs.pg_server.pg_transfer.Harbinger.{harbinger, heard}
-use Rattle.law_order.specs.pg_server.pg_transfer.Later.{later, later_along}
-use Rattle.law_order.specs.pg_server.pg_transfer.Piece.{advance, completed, is_last, is_next, piece, pieced_along, pieced_by, whole, without_noted}
-use Rattle.law_order.specs.pg_store.declared.store.Store.{Store}
-use Rattle.law_order.specs.pg_store.Store.{is_new_version, keep_delta, notes_behind, put_version, replica_at, take_version}
-use Rattle.law_order.specs.theory_bodies.Telling.{Telling}
-use Rattle.law_order.specs.theory_bodies.Telling.Telling.{Announces, Gives, Silent}
-use Rattle.law_order.proofs.theory_flood_pieces.Choices.{chosen}
+use Rattle.pg_run.specs.pg_announced.declared.announced.Announced.{Announced}
+use Rattle.pg_run.specs.pg_announced.declared.announced.NoteKey.{NoteKey}
+use Rattle.pg_run.specs.pg_announced.Announced.{AreSorted, NotesValue, is_asked_of, is_over, key_at, note_at}
+use Rattle.pg_run.proofs.pg_announced.Found.{kept_found, without_found}
+use Rattle.pg_run.proofs.pg_announced.Sorted.{sorted_without}
+use Rattle.pg_run.specs.pg_base.declared.head.Head.{Head}
+use Rattle.pg_run.specs.pg_base.declared.id.FileId.{FileId}
+use Rattle.pg_run.specs.pg_base.declared.policy.Policy.{Policy}
+use Rattle.pg_run.specs.pg_base.declared.stamp.Stamp.{Stamp}
+use Rattle.pg_run.specs.pg_base.Version.{VersionValue}
+use Rattle.pg_run.specs.pg_delta.Taking.{delta_to}
+use Rattle.pg_run.specs.pg_msg.declared.message.Delta.{Delta}
+use Rattle.pg_run.specs.pg_msg.declared.message.Ends.{Ends}
+use Rattle.pg_run.specs.pg_msg.declared.message.Piece.{Piece}
+use Rattle.pg_run.specs.pg_msg.declared.message.Sent.{Sent}
+use Rattle.pg_run.specs.pg_msg.declared.work.Work.{Work}
+use Rattle.pg_run.specs.pg_msg.Work.{new_work}
+use Rattle.pg_run.specs.pg_names.Names.{is_dir}
+use Rattle.pg_run.specs.pg_pieces.declared.accepting.EdgeUse.TheVariants as manner
+use Rattle.pg_run.specs.pg_pieces.Accepting.{accept, is_accepted}
+use Rattle.pg_run.specs.pg_pieces.Done.{Done, idle}
+use Rattle.pg_run.specs.pg_replica.declared.replica.Replica.{Replica}
+use Rattle.pg_run.specs.Journal.{Born}
+use Rattle.pg_run.proofs.Sends.{accept_fine}
+use Rattle.pg_run.specs.pg_server.pg_transfer.declared.piecing.Progress.TheVariants as progress
+use Rattle.pg_run.specs.pg_server.pg_transfer.Asking.{noted}
+use Rattle.pg_run.specs.pg_server.pg_transfer.Delta.{changed_along, changed_by, delta, made_by}
+use Rattle.pg_run.specs.pg_server.pg_transfer.Harbinger.{harbinger, heard}
+use Rattle.pg_run.specs.pg_server.pg_transfer.Later.{later, later_along}
+use Rattle.pg_run.specs.pg_server.pg_transfer.Piece.{advance, completed, is_last, is_next, piece, pieced_along, pieced_by, whole, without_noted}
+use Rattle.pg_run.specs.pg_store.declared.store.Store.{Store}
+use Rattle.pg_run.specs.pg_store.Store.{is_new_version, keep_delta, notes_behind, put_version, replica_at, take_version}
+use Rattle.pg_run.specs.theory_bodies.Telling.{Telling}
+use Rattle.pg_run.specs.theory_bodies.Telling.Telling.{Announces, Gives, Silent}
+use Rattle.pg_run.proofs.theory_flood_pieces.Choices.{chosen}
 use Rattle.law_contents.proofs.Accepted.{answers_idle}
 use Rattle.law_contents.proofs.Changes.{noted_at}
 use Rattle.law_contents.proofs.Handlers.{accept_quiet}

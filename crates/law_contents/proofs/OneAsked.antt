@@ -6,53 +6,53 @@ use Rattle.std.specs.List.{flat_map, list_any}
 use Rattle.std.proofs.lemmas.Bool.{and_parts, false≢true, le-leb}
 use Rattle.std.proofs.lemmas.Bool.Decides.{Decides-eqb}
 use Rattle.std.proofs.lemmas.List.Elements.{All-append, All-nil, All-push, All-weaker}
-use Rattle.law_order.specs.pg_announced.declared.announced.Announced.{Announced}
-use Rattle.law_order.specs.pg_announced.declared.announced.NoteKey.{NoteKey}
-use Rattle.law_order.specs.pg_announced.Announced.{NotesValue, covers_for_other, is_awaited, key_at, key_cmp, note_at}
-use Rattle.law_order.proofs.pg_announced.Keys.{key_exact}
-use Rattle.law_order.specs.pg_base.declared.head.Head.{Head}
-use Rattle.law_order.specs.pg_base.declared.id.FileId.{FileId}
-use Rattle.law_order.specs.pg_base.declared.policy.Policy.{Policy}
-use Rattle.law_order.specs.pg_base.declared.stamp.Stamp.{Stamp}
-use Rattle.law_order.specs.pg_base.Id.{is_same_file}
-use Rattle.law_order.specs.pg_base.Vector.{number_at}
-use Rattle.law_order.specs.pg_base.Version.{actor_of}
-use Rattle.law_order.proofs.pg_base.Orders.{is_eq-true, is_same_file-refl, is_same_file-true}
-use Rattle.law_order.specs.pg_content.Content.{Among, ContentValue, is_covered}
-use Rattle.law_order.specs.pg_content.History.{is_same_stamp, version_of}
-use Rattle.law_order.proofs.pg_content.Members.{any_by}
-use Rattle.law_order.proofs.pg_content.Stamps.{same_stamp}
-use Rattle.law_order.specs.pg_delta.Taking.{delta_to}
-use Rattle.law_order.specs.pg_msg.declared.message.Delta.{Delta}
-use Rattle.law_order.specs.pg_msg.declared.message.Ends.{Ends}
-use Rattle.law_order.specs.pg_msg.declared.message.Message.TheVariants as message
-use Rattle.law_order.specs.pg_msg.declared.message.Piece.{Piece}
-use Rattle.law_order.specs.pg_msg.declared.message.Sent.{Sent}
-use Rattle.law_order.specs.pg_msg.declared.message.Wanted.{Wanted}
-use Rattle.law_order.specs.pg_msg.declared.work.Work.{Work}
-use Rattle.law_order.specs.pg_msg.Ends.{back}
-use Rattle.law_order.specs.pg_msg.Work.{new_work}
-use Rattle.law_order.specs.pg_run.Asking.{Asked, is_version, wanted_by}
-use Rattle.law_order.specs.pg_run.Journal.{Born, made_for, with_ancestors}
-use Rattle.law_order.proofs.pg_run.Sends.{accept_fine}
-use Rattle.law_order.proofs.pg_run.TransferWays.{beside_goes, changed_goes, delta_goes, harbinger_goes, heard_goes, others_hear, piece_goes, pieced_goes}
-use Rattle.law_order.specs.pg_store.declared.store.Store.{Store}
-use Rattle.law_order.specs.pg_store.Seen.{server_of}
-use Rattle.law_order.specs.pg_store.Store.{content_of, keep_delta, replica_of}
-use Rattle.law_order.specs.pg_pieces.declared.accepting.EdgeUse.{EdgeUse}
-use Rattle.law_order.specs.pg_pieces.declared.accepting.EdgeUse.TheVariants as manner
-use Rattle.law_order.specs.pg_pieces.Accepting.{accept}
-use Rattle.law_order.specs.pg_pieces.Done.{Done}
-use Rattle.law_order.specs.pg_pieces.Posting.{sent_to}
-use Rattle.law_order.specs.pg_server.pg_transfer.Asking.{acknowledged, ask, heard_by, listed, noted, offset_of, put_off}
-use Rattle.law_order.specs.pg_server.pg_transfer.Delta.{delta}
-use Rattle.law_order.specs.pg_server.pg_transfer.Harbinger.{harbinger}
-use Rattle.law_order.specs.pg_server.pg_transfer.Piece.{piece, whole, without_noted}
-use Rattle.law_order.specs.pg_server.pg_transfer.Taking.{taken_for}
-use Rattle.law_order.specs.theory_bodies.Asked.{Asking, asking_of}
-use Rattle.law_order.specs.theory_bodies.Book.{IsBook, IsHeadOf}
-use Rattle.law_order.specs.theory_bodies.Protocol.{Note}
-use Rattle.law_order.proofs.theory_bodies.Books.{one_head}
+use Rattle.pg_run.specs.pg_announced.declared.announced.Announced.{Announced}
+use Rattle.pg_run.specs.pg_announced.declared.announced.NoteKey.{NoteKey}
+use Rattle.pg_run.specs.pg_announced.Announced.{NotesValue, covers_for_other, is_awaited, key_at, key_cmp, note_at}
+use Rattle.pg_run.proofs.pg_announced.Keys.{key_exact}
+use Rattle.pg_run.specs.pg_base.declared.head.Head.{Head}
+use Rattle.pg_run.specs.pg_base.declared.id.FileId.{FileId}
+use Rattle.pg_run.specs.pg_base.declared.policy.Policy.{Policy}
+use Rattle.pg_run.specs.pg_base.declared.stamp.Stamp.{Stamp}
+use Rattle.pg_run.specs.pg_base.Id.{is_same_file}
+use Rattle.pg_run.specs.pg_base.Vector.{number_at}
+use Rattle.pg_run.specs.pg_base.Version.{actor_of}
+use Rattle.pg_run.proofs.pg_base.Orders.{is_eq-true, is_same_file-refl, is_same_file-true}
+use Rattle.pg_run.specs.pg_content.Content.{Among, ContentValue, is_covered}
+use Rattle.pg_run.specs.pg_content.History.{is_same_stamp, version_of}
+use Rattle.pg_run.proofs.pg_content.Members.{any_by}
+use Rattle.pg_run.proofs.pg_content.Stamps.{same_stamp}
+use Rattle.pg_run.specs.pg_delta.Taking.{delta_to}
+use Rattle.pg_run.specs.pg_msg.declared.message.Delta.{Delta}
+use Rattle.pg_run.specs.pg_msg.declared.message.Ends.{Ends}
+use Rattle.pg_run.specs.pg_msg.declared.message.Message.TheVariants as message
+use Rattle.pg_run.specs.pg_msg.declared.message.Piece.{Piece}
+use Rattle.pg_run.specs.pg_msg.declared.message.Sent.{Sent}
+use Rattle.pg_run.specs.pg_msg.declared.message.Wanted.{Wanted}
+use Rattle.pg_run.specs.pg_msg.declared.work.Work.{Work}
+use Rattle.pg_run.specs.pg_msg.Ends.{back}
+use Rattle.pg_run.specs.pg_msg.Work.{new_work}
+use Rattle.pg_run.specs.Asking.{Asked, is_version, wanted_by}
+use Rattle.pg_run.specs.Journal.{Born, made_for, with_ancestors}
+use Rattle.pg_run.proofs.Sends.{accept_fine}
+use Rattle.pg_run.proofs.TransferWays.{beside_goes, changed_goes, delta_goes, harbinger_goes, heard_goes, others_hear, piece_goes, pieced_goes}
+use Rattle.pg_run.specs.pg_store.declared.store.Store.{Store}
+use Rattle.pg_run.specs.pg_store.Seen.{server_of}
+use Rattle.pg_run.specs.pg_store.Store.{content_of, keep_delta, replica_of}
+use Rattle.pg_run.specs.pg_pieces.declared.accepting.EdgeUse.{EdgeUse}
+use Rattle.pg_run.specs.pg_pieces.declared.accepting.EdgeUse.TheVariants as manner
+use Rattle.pg_run.specs.pg_pieces.Accepting.{accept}
+use Rattle.pg_run.specs.pg_pieces.Done.{Done}
+use Rattle.pg_run.specs.pg_pieces.Posting.{sent_to}
+use Rattle.pg_run.specs.pg_server.pg_transfer.Asking.{acknowledged, ask, heard_by, listed, noted, offset_of, put_off}
+use Rattle.pg_run.specs.pg_server.pg_transfer.Delta.{delta}
+use Rattle.pg_run.specs.pg_server.pg_transfer.Harbinger.{harbinger}
+use Rattle.pg_run.specs.pg_server.pg_transfer.Piece.{piece, whole, without_noted}
+use Rattle.pg_run.specs.pg_server.pg_transfer.Taking.{taken_for}
+use Rattle.pg_run.specs.theory_bodies.Asked.{Asking, asking_of}
+use Rattle.pg_run.specs.theory_bodies.Book.{IsBook, IsHeadOf}
+use Rattle.pg_run.specs.theory_bodies.Protocol.{Note}
+use Rattle.pg_run.proofs.theory_bodies.Books.{one_head}
 use Rattle.law_contents.proofs.Agreed.{Agrees}
 use Rattle.law_contents.proofs.AsksBodies.{acked_other, asked_note, taken_other}
 use Rattle.law_contents.proofs.Changes.{Keeps, content_is}

@@ -3,29 +3,29 @@ use Rattle.std.proofs.Common.{ℕ, ◌≡◌, ◌≢◌, ◌<◌, ◌^◌, Bool,
 use Rattle.std.specs.Prelude.{Contains}
 use Rattle.std.specs.Option.{option_or}
 use Rattle.std.proofs.lemmas.List.Elements.{All-contains, All-head, All-nil, All-tail, All-weaker}
-use Rattle.law_order.specs.pg_base.declared.id.FileId.{FileId}
-use Rattle.law_order.specs.pg_base.declared.policy.Policy.{Policy}
-use Rattle.law_order.specs.pg_base.declared.stamp.Stamp.{Stamp}
-use Rattle.law_order.specs.pg_event.declared.event.Event.{Event}
-use Rattle.law_order.specs.pg_msg.declared.message.Message.{Message}
-use Rattle.law_order.specs.pg_msg.declared.message.Message.TheVariants as message
-use Rattle.law_order.specs.pg_msg.declared.message.Sent.{Sent}
-use Rattle.law_order.specs.pg_msg.Work.{new_work}
-use Rattle.law_order.specs.pg_run.Asked.{asked_behind, ends_asking}
-use Rattle.law_order.specs.pg_run.Asking.{Asked, last_wanted, wanted_by}
-use Rattle.law_order.specs.pg_run.Bodies.{OneIsAskedAtATime}
-use Rattle.law_order.specs.pg_run.Journal.{Born}
-use Rattle.law_order.specs.pg_run.Run.{Step, Taking, World, effect_step, next, run, taking_in, world_after}
-use Rattle.law_order.proofs.pg_run.Event.{all_sent, asks_sent, cells_sent, end_of}
-use Rattle.law_order.proofs.pg_run.Frame.{Acts, IsFramed, each_after, framed, holds_in_runs, no_server_comes}
-use Rattle.law_order.proofs.pg_run.LastWalks.{lasts_have}
-use Rattle.law_order.specs.pg_store.declared.store.Store.{Store}
-use Rattle.law_order.specs.pg_pieces.Done.{idle}
-use Rattle.law_order.specs.pg_cells.Sending.{is_chosen}
-use Rattle.law_order.specs.pg_server.declared.input.Input.{Input}
-use Rattle.law_order.specs.pg_server.declared.input.Input.TheVariants as input
-use Rattle.law_order.specs.pg_server.Local.{effect, first_effect, is_heard, receive}
-use Rattle.law_order.specs.theory_bodies.Asked.{Asking}
+use Rattle.pg_run.specs.pg_base.declared.id.FileId.{FileId}
+use Rattle.pg_run.specs.pg_base.declared.policy.Policy.{Policy}
+use Rattle.pg_run.specs.pg_base.declared.stamp.Stamp.{Stamp}
+use Rattle.pg_run.specs.pg_event.declared.event.Event.{Event}
+use Rattle.pg_run.specs.pg_msg.declared.message.Message.{Message}
+use Rattle.pg_run.specs.pg_msg.declared.message.Message.TheVariants as message
+use Rattle.pg_run.specs.pg_msg.declared.message.Sent.{Sent}
+use Rattle.pg_run.specs.pg_msg.Work.{new_work}
+use Rattle.pg_run.specs.Asked.{asked_behind, ends_asking}
+use Rattle.pg_run.specs.Asking.{Asked, last_wanted, wanted_by}
+use Rattle.pg_run.specs.Bodies.{OneIsAskedAtATime}
+use Rattle.pg_run.specs.Journal.{Born}
+use Rattle.pg_run.specs.Run.{Step, Taking, World, effect_step, next, run, taking_in, world_after}
+use Rattle.pg_run.proofs.Event.{all_sent, asks_sent, cells_sent, end_of}
+use Rattle.pg_run.proofs.Frame.{Acts, IsFramed, each_after, framed, holds_in_runs, no_server_comes}
+use Rattle.pg_run.proofs.LastWalks.{lasts_have}
+use Rattle.pg_run.specs.pg_store.declared.store.Store.{Store}
+use Rattle.pg_run.specs.pg_pieces.Done.{idle}
+use Rattle.pg_run.specs.pg_cells.Sending.{is_chosen}
+use Rattle.pg_run.specs.pg_server.declared.input.Input.{Input}
+use Rattle.pg_run.specs.pg_server.declared.input.Input.TheVariants as input
+use Rattle.pg_run.specs.pg_server.Local.{effect, first_effect, is_heard, receive}
+use Rattle.pg_run.specs.theory_bodies.Asked.{Asking}
 use Rattle.law_contents.specs.Together.{StandOn}
 use Rattle.law_contents.proofs.Agreed.{Agrees}
 use Rattle.law_contents.proofs.AsksInputs.{CarriesInput, answers_other}

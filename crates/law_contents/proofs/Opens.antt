@@ -1,53 +1,53 @@
 -- No version is noted that the replica of its file covers.
 use Rattle.std.proofs.Common.{ℕ, ◌≡◌, ◌<◌, ◌^◌, Bool, true, false, cond, not, List, [], Option, None, Some, is_some, inl, inr, refl, sym, ap, subst, ◌∙◌}
 use Rattle.std.proofs.lemmas.Bool.{false≢true}
-use Rattle.law_order.specs.pg_announced.declared.announced.Announced.{Announced}
-use Rattle.law_order.specs.pg_announced.declared.announced.NoteKey.{NoteKey}
-use Rattle.law_order.specs.pg_announced.Announced.{AreSorted, NotesValue, aimed, change_note, emptied, is_asked_of, key_at, longer, new_note, note_at, put_note, unasked, without_note}
-use Rattle.law_order.proofs.pg_announced.Found.{changed_found, kept_found, put_found, released_found, without_found}
-use Rattle.law_order.proofs.pg_announced.Sorted.{sorted_without}
-use Rattle.law_order.specs.pg_base.declared.head.Head.{Head}
-use Rattle.law_order.specs.pg_base.declared.id.FileId.{FileId}
-use Rattle.law_order.specs.pg_base.declared.policy.Policy.{Policy}
-use Rattle.law_order.specs.pg_base.declared.stamp.Stamp.{Stamp}
-use Rattle.law_order.specs.pg_base.Id.{is_same_file}
-use Rattle.law_order.specs.pg_base.Version.{actor_of}
-use Rattle.law_order.proofs.pg_base.Orders.{is_same_file-true}
-use Rattle.law_order.specs.pg_content.Content.{ContentValue, is_covered}
-use Rattle.law_order.specs.pg_delta.Taking.{delta_to}
-use Rattle.law_order.specs.pg_event.declared.event.Event.{Event}
-use Rattle.law_order.specs.pg_intent.declared.key.IntentKey.TheVariants as intent_key
-use Rattle.law_order.specs.pg_intent.Intents.{ended}
-use Rattle.law_order.specs.pg_msg.declared.message.Delta.{Delta}
-use Rattle.law_order.specs.pg_msg.declared.message.Ends.{Ends}
-use Rattle.law_order.specs.pg_msg.declared.message.Message.{Message}
-use Rattle.law_order.specs.pg_msg.declared.message.Message.TheVariants as message
-use Rattle.law_order.specs.pg_msg.declared.message.Piece.{Piece}
-use Rattle.law_order.specs.pg_msg.declared.work.Work.{Work}
-use Rattle.law_order.specs.pg_msg.Work.{new_work}
-use Rattle.law_order.specs.pg_run.Journal.{Born}
-use Rattle.law_order.specs.pg_run.Run.{Taking, World, effect_step, run, taking_in, world_after}
-use Rattle.law_order.proofs.pg_run.Frame.{Acts, holds_in_runs, no_server_comes}
-use Rattle.law_order.proofs.pg_run.TransferWays.{beside_goes, changed_goes, delta_goes, harbinger_goes, heard_goes, later_goes, piece_goes, pieced_goes}
-use Rattle.law_order.specs.pg_store.declared.store.Store.{Store}
-use Rattle.law_order.specs.pg_store.Beginning.{let_go}
-use Rattle.law_order.specs.pg_store.Births.{birth_of}
-use Rattle.law_order.specs.pg_store.Store.{content_of, is_before_clock_end, keep_delta, new_store, replica_of}
-use Rattle.law_order.specs.pg_pieces.declared.accepting.EdgeUse.{EdgeUse}
-use Rattle.law_order.specs.pg_pieces.declared.accepting.EdgeUse.TheVariants as manner
-use Rattle.law_order.specs.pg_pieces.Accepting.{accept}
-use Rattle.law_order.specs.pg_pieces.Done.{Done, idle}
-use Rattle.law_order.specs.pg_pieces.Parting.{stays_for}
-use Rattle.law_order.specs.pg_graph.Leaving.{goes, leave_ok, may_leave, without_leave}
-use Rattle.law_order.specs.pg_server.declared.input.Input.{Input}
-use Rattle.law_order.specs.pg_server.declared.input.Input.TheVariants as input
-use Rattle.law_order.specs.pg_server.Local.{effect, first_effect, is_heard, receive, ticked, without_sources}
-use Rattle.law_order.specs.pg_server.pg_transfer.Asking.{noted}
-use Rattle.law_order.specs.pg_server.pg_transfer.Delta.{delta}
-use Rattle.law_order.specs.pg_server.pg_transfer.Harbinger.{harbinger}
-use Rattle.law_order.specs.pg_server.pg_transfer.Later.{later}
-use Rattle.law_order.specs.pg_server.pg_transfer.Piece.{piece, whole, without_noted}
-use Rattle.law_order.proofs.theory_flood_pieces.Choices.{chosen}
+use Rattle.pg_run.specs.pg_announced.declared.announced.Announced.{Announced}
+use Rattle.pg_run.specs.pg_announced.declared.announced.NoteKey.{NoteKey}
+use Rattle.pg_run.specs.pg_announced.Announced.{AreSorted, NotesValue, aimed, change_note, emptied, is_asked_of, key_at, longer, new_note, note_at, put_note, unasked, without_note}
+use Rattle.pg_run.proofs.pg_announced.Found.{changed_found, kept_found, put_found, released_found, without_found}
+use Rattle.pg_run.proofs.pg_announced.Sorted.{sorted_without}
+use Rattle.pg_run.specs.pg_base.declared.head.Head.{Head}
+use Rattle.pg_run.specs.pg_base.declared.id.FileId.{FileId}
+use Rattle.pg_run.specs.pg_base.declared.policy.Policy.{Policy}
+use Rattle.pg_run.specs.pg_base.declared.stamp.Stamp.{Stamp}
+use Rattle.pg_run.specs.pg_base.Id.{is_same_file}
+use Rattle.pg_run.specs.pg_base.Version.{actor_of}
+use Rattle.pg_run.proofs.pg_base.Orders.{is_same_file-true}
+use Rattle.pg_run.specs.pg_content.Content.{ContentValue, is_covered}
+use Rattle.pg_run.specs.pg_delta.Taking.{delta_to}
+use Rattle.pg_run.specs.pg_event.declared.event.Event.{Event}
+use Rattle.pg_run.specs.pg_intent.declared.key.IntentKey.TheVariants as intent_key
+use Rattle.pg_run.specs.pg_intent.Intents.{ended}
+use Rattle.pg_run.specs.pg_msg.declared.message.Delta.{Delta}
+use Rattle.pg_run.specs.pg_msg.declared.message.Ends.{Ends}
+use Rattle.pg_run.specs.pg_msg.declared.message.Message.{Message}
+use Rattle.pg_run.specs.pg_msg.declared.message.Message.TheVariants as message
+use Rattle.pg_run.specs.pg_msg.declared.message.Piece.{Piece}
+use Rattle.pg_run.specs.pg_msg.declared.work.Work.{Work}
+use Rattle.pg_run.specs.pg_msg.Work.{new_work}
+use Rattle.pg_run.specs.Journal.{Born}
+use Rattle.pg_run.specs.Run.{Taking, World, effect_step, run, taking_in, world_after}
+use Rattle.pg_run.proofs.Frame.{Acts, holds_in_runs, no_server_comes}
+use Rattle.pg_run.proofs.TransferWays.{beside_goes, changed_goes, delta_goes, harbinger_goes, heard_goes, later_goes, piece_goes, pieced_goes}
+use Rattle.pg_run.specs.pg_store.declared.store.Store.{Store}
+use Rattle.pg_run.specs.pg_store.Beginning.{let_go}
+use Rattle.pg_run.specs.pg_store.Births.{birth_of}
+use Rattle.pg_run.specs.pg_store.Store.{content_of, is_before_clock_end, keep_delta, new_store, replica_of}
+use Rattle.pg_run.specs.pg_pieces.declared.accepting.EdgeUse.{EdgeUse}
+use Rattle.pg_run.specs.pg_pieces.declared.accepting.EdgeUse.TheVariants as manner
+use Rattle.pg_run.specs.pg_pieces.Accepting.{accept}
+use Rattle.pg_run.specs.pg_pieces.Done.{Done, idle}
+use Rattle.pg_run.specs.pg_pieces.Parting.{stays_for}
+use Rattle.pg_run.specs.pg_graph.Leaving.{goes, leave_ok, may_leave, without_leave}
+use Rattle.pg_run.specs.pg_server.declared.input.Input.{Input}
+use Rattle.pg_run.specs.pg_server.declared.input.Input.TheVariants as input
+use Rattle.pg_run.specs.pg_server.Local.{effect, first_effect, is_heard, receive, ticked, without_sources}
+use Rattle.pg_run.specs.pg_server.pg_transfer.Asking.{noted}
+use Rattle.pg_run.specs.pg_server.pg_transfer.Delta.{delta}
+use Rattle.pg_run.specs.pg_server.pg_transfer.Harbinger.{harbinger}
+use Rattle.pg_run.specs.pg_server.pg_transfer.Later.{later}
+use Rattle.pg_run.specs.pg_server.pg_transfer.Piece.{piece, whole, without_noted}
+use Rattle.pg_run.proofs.theory_flood_pieces.Choices.{chosen}
 use Rattle.law_contents.specs.Together.{StandOn}
 use Rattle.law_contents.proofs.Agreeing.{end_keeps}
 use Rattle.law_contents.proofs.Changes.{AreOpen, Core, Covers, IsOpen, Keeps, content_in, content_is, core_at, keeps_open}

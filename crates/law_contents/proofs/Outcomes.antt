@@ -1,57 +1,57 @@
 -- What each call comes to: no version is made, be it that a directory begins, or one is.
 use Rattle.std.proofs.Common.{ℕ, ◌≡◌, ◌≤◌, ◌==◌, cond, List, [], ◌++◌, map, Option, None, Some, Result, Ok, Err, refl, sym, subst, inl, inr, ◌⊎◌}
-use Rattle.law_order.specs.pg_base.declared.id.FileId.{FileId}
-use Rattle.law_order.specs.pg_base.declared.id.Kind.TheVariants.{Dir, File}
-use Rattle.law_order.specs.pg_base.declared.policy.Policy.{Policy}
-use Rattle.law_order.specs.pg_base.declared.policy.Policy.TheVariants.{Last}
-use Rattle.law_order.specs.pg_patch.Ranges.{IsRanges, RangesValue, body_limit, cut_to, written}
-use Rattle.law_order.specs.pg_call.declared.call.Call.{Call}
-use Rattle.law_order.specs.pg_call.declared.call.Call.TheVariants as call
-use Rattle.law_order.specs.pg_call.declared.call.Target.{Target}
-use Rattle.law_order.specs.pg_call.declared.reply.Reply.{Reply}
-use Rattle.law_order.specs.pg_call.declared.reply.Reply.TheVariants as reply
-use Rattle.law_order.specs.pg_call.declared.refusal.Refusal.{Refusal}
-use Rattle.law_order.specs.pg_call.declared.refusal.Refusal.TheVariants.{NotYet}
-use Rattle.law_order.specs.pg_msg.declared.message.Message.TheVariants as message
-use Rattle.law_order.specs.pg_msg.declared.work.Work.{Work}
-use Rattle.law_order.specs.pg_msg.Work.{new_work}
-use Rattle.law_order.specs.pg_register.declared.flag.Flag.{Flag}
-use Rattle.law_order.specs.pg_register.declared.place.Place.{Place}
-use Rattle.law_order.specs.pg_names.Names.{is_dir}
-use Rattle.law_order.specs.pg_run.Asking.{Asked}
-use Rattle.law_order.specs.pg_run.Carried.{begun_by, forgotten_takes, strikes_out}
-use Rattle.law_order.specs.pg_run.Journal.{Born}
-use Rattle.law_order.specs.pg_run.State.{is_made, policy_by, policy_named}
-use Rattle.law_order.specs.pg_run.Run.{brought}
-use Rattle.law_order.specs.pg_run.Took.{Take, stamps_taken, take_of}
-use Rattle.law_order.specs.pg_server.declared.input.Input.TheVariants as input
-use Rattle.law_order.specs.pg_store.Store.{is_held}
-use Rattle.law_order.specs.pg_store.declared.store.Store.{Store}
-use Rattle.law_order.specs.pg_store.declared.wishes.Wish.{Wish}
-use Rattle.law_order.specs.pg_store.Births.{with_birth, with_wish}
-use Rattle.law_order.specs.pg_pieces.Done.{Done, idle}
-use Rattle.law_order.specs.pg_pieces.Intending.{begin_intent}
-use Rattle.law_order.specs.pg_pieces.Posting.{post}
-use Rattle.law_order.specs.pg_server.Local.{done_of}
-use Rattle.law_order.specs.pg_lookup.declared.paths.Found.{Found}
-use Rattle.law_order.specs.pg_lookup.declared.paths.LookupError.{LookupError}
-use Rattle.law_order.specs.pg_lookup.declared.paths.LookupError.TheVariants as stop
-use Rattle.law_order.specs.pg_pieces.Making.{lower_flag}
-use Rattle.law_order.specs.pg_checks.Answer.{Answer, answer, answered, deny, replied, told}
-use Rattle.law_order.specs.pg_checks.Asking.{ask_by, ask_first, ask_for, fetch, fresh_wish, holder, standing}
-use Rattle.law_order.specs.pg_calls.Bodies.{change, change_file, when_fit}
-use Rattle.law_order.specs.pg_calls.Calls.{do_call}
-use Rattle.law_order.specs.pg_checks.Checks.{dir_at, empty_dir_at, file_at, in_time, move_of, new_name, target_at}
-use Rattle.law_order.specs.pg_pieces.Golds.{is_gold}
-use Rattle.law_order.specs.pg_calls.Demoting.{demoted_at, lowered}
-use Rattle.law_order.specs.pg_calls.Dropping.{clean_gold, dropped_at, leave_of, leaving}
-use Rattle.law_order.specs.pg_calls.Forgetting.{forget_lost, lost_at}
-use Rattle.law_order.specs.pg_calls.GivingUp.{removal_at}
-use Rattle.law_order.specs.pg_calls.Making.{make_place}
-use Rattle.law_order.specs.pg_calls.Naming.{dead_place, next_id, place_in}
-use Rattle.law_order.proofs.pg_calls.Checked.{fit_found}
-use Rattle.law_order.proofs.pg_calls.InTime.{name_in_time}
-use Rattle.law_order.proofs.theory_flood_pieces.Choices.{chosen}
+use Rattle.pg_run.specs.pg_base.declared.id.FileId.{FileId}
+use Rattle.pg_run.specs.pg_base.declared.id.Kind.TheVariants.{Dir, File}
+use Rattle.pg_run.specs.pg_base.declared.policy.Policy.{Policy}
+use Rattle.pg_run.specs.pg_base.declared.policy.Policy.TheVariants.{Last}
+use Rattle.pg_run.specs.pg_patch.Ranges.{IsRanges, RangesValue, body_limit, cut_to, written}
+use Rattle.pg_run.specs.pg_call.declared.call.Call.{Call}
+use Rattle.pg_run.specs.pg_call.declared.call.Call.TheVariants as call
+use Rattle.pg_run.specs.pg_call.declared.call.Target.{Target}
+use Rattle.pg_run.specs.pg_call.declared.reply.Reply.{Reply}
+use Rattle.pg_run.specs.pg_call.declared.reply.Reply.TheVariants as reply
+use Rattle.pg_run.specs.pg_call.declared.refusal.Refusal.{Refusal}
+use Rattle.pg_run.specs.pg_call.declared.refusal.Refusal.TheVariants.{NotYet}
+use Rattle.pg_run.specs.pg_msg.declared.message.Message.TheVariants as message
+use Rattle.pg_run.specs.pg_msg.declared.work.Work.{Work}
+use Rattle.pg_run.specs.pg_msg.Work.{new_work}
+use Rattle.pg_run.specs.pg_register.declared.flag.Flag.{Flag}
+use Rattle.pg_run.specs.pg_register.declared.place.Place.{Place}
+use Rattle.pg_run.specs.pg_names.Names.{is_dir}
+use Rattle.pg_run.specs.Asking.{Asked}
+use Rattle.pg_run.specs.Carried.{begun_by, forgotten_takes, strikes_out}
+use Rattle.pg_run.specs.Journal.{Born}
+use Rattle.pg_run.specs.State.{is_made, policy_by, policy_named}
+use Rattle.pg_run.specs.Run.{brought}
+use Rattle.pg_run.specs.Took.{Take, stamps_taken, take_of}
+use Rattle.pg_run.specs.pg_server.declared.input.Input.TheVariants as input
+use Rattle.pg_run.specs.pg_store.Store.{is_held}
+use Rattle.pg_run.specs.pg_store.declared.store.Store.{Store}
+use Rattle.pg_run.specs.pg_store.declared.wishes.Wish.{Wish}
+use Rattle.pg_run.specs.pg_store.Births.{with_birth, with_wish}
+use Rattle.pg_run.specs.pg_pieces.Done.{Done, idle}
+use Rattle.pg_run.specs.pg_pieces.Intending.{begin_intent}
+use Rattle.pg_run.specs.pg_pieces.Posting.{post}
+use Rattle.pg_run.specs.pg_server.Local.{done_of}
+use Rattle.pg_run.specs.pg_lookup.declared.paths.Found.{Found}
+use Rattle.pg_run.specs.pg_lookup.declared.paths.LookupError.{LookupError}
+use Rattle.pg_run.specs.pg_lookup.declared.paths.LookupError.TheVariants as stop
+use Rattle.pg_run.specs.pg_pieces.Making.{lower_flag}
+use Rattle.pg_run.specs.pg_checks.Answer.{Answer, answer, answered, deny, replied, told}
+use Rattle.pg_run.specs.pg_checks.Asking.{ask_by, ask_first, ask_for, fetch, fresh_wish, holder, standing}
+use Rattle.pg_run.specs.pg_calls.Bodies.{change, change_file, when_fit}
+use Rattle.pg_run.specs.pg_calls.Calls.{do_call}
+use Rattle.pg_run.specs.pg_checks.Checks.{dir_at, empty_dir_at, file_at, in_time, move_of, new_name, target_at}
+use Rattle.pg_run.specs.pg_pieces.Golds.{is_gold}
+use Rattle.pg_run.specs.pg_calls.Demoting.{demoted_at, lowered}
+use Rattle.pg_run.specs.pg_calls.Dropping.{clean_gold, dropped_at, leave_of, leaving}
+use Rattle.pg_run.specs.pg_calls.Forgetting.{forget_lost, lost_at}
+use Rattle.pg_run.specs.pg_calls.GivingUp.{removal_at}
+use Rattle.pg_run.specs.pg_calls.Making.{make_place}
+use Rattle.pg_run.specs.pg_calls.Naming.{dead_place, next_id, place_in}
+use Rattle.pg_run.proofs.pg_calls.Checked.{fit_found}
+use Rattle.pg_run.proofs.pg_calls.InTime.{name_in_time}
+use Rattle.pg_run.proofs.theory_flood_pieces.Choices.{chosen}
 use Rattle.law_contents.proofs.Arrivals.{Arrives, quiet_arrives}
 use Rattle.law_contents.proofs.Beginning.{dir_arrives, dir_none, first_makes, unnamed}
 use Rattle.law_contents.proofs.Entered.{entered_arrives, entered_none}

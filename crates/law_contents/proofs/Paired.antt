@@ -1,14 +1,14 @@
 -- What is to come is not here, and what is held has a replica, whose birth was given out.
 use Rattle.std.proofs.Common.{ℕ, ◌≡◌, ◌&&◌, Bool, true, false, not, is_some, Option, None, Some, option_map, refl, sym, ap, ◌∙◌, inl, inr, arith}
 use Rattle.std.proofs.lemmas.Bool.{and_parts, or_cases, not-true}
-use Rattle.law_order.specs.pg_base.declared.id.FileId.{FileId}
-use Rattle.law_order.specs.pg_replica.declared.replica.Replica.{Replica}
-use Rattle.law_order.specs.pg_run.Journal.{Born}
-use Rattle.law_order.specs.pg_store.declared.store.Store.{Store}
-use Rattle.law_order.specs.pg_store.declared.wishes.Wish.{Wish}
-use Rattle.law_order.specs.pg_store.Births.{fill_at, is_fill_at, is_pending, wish_at}
-use Rattle.law_order.specs.pg_store.Store.{is_held, replica_at}
-use Rattle.law_order.specs.pg_store.Wishes.{is_with_birth}
+use Rattle.pg_run.specs.pg_base.declared.id.FileId.{FileId}
+use Rattle.pg_run.specs.pg_replica.declared.replica.Replica.{Replica}
+use Rattle.pg_run.specs.Journal.{Born}
+use Rattle.pg_run.specs.pg_store.declared.store.Store.{Store}
+use Rattle.pg_run.specs.pg_store.declared.wishes.Wish.{Wish}
+use Rattle.pg_run.specs.pg_store.Births.{fill_at, is_fill_at, is_pending, wish_at}
+use Rattle.pg_run.specs.pg_store.Store.{is_held, replica_at}
+use Rattle.pg_run.specs.pg_store.Wishes.{is_with_birth}
 use Rattle.law_contents.specs.Together.{GoTogether}
 use Rattle.law_contents.proofs.Changes.{Core, core_at, core_of, replica_of_core}
 use Rattle.law_contents.proofs.Servers.{IsPaired, IsPast}

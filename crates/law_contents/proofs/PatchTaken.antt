@@ -1,37 +1,37 @@
 -- A version is taken as a change of what heads show, and the change is kept; or it comes again.
 use Rattle.std.proofs.Common.{ℕ, ◌≡◌, cond, List, [], ◌∷◌, ◌++◌, map, Option, Some, option_map, refl, sym, ap, subst, ◌∙◌, inl, arith}
 use Rattle.std.proofs.lemmas.List.{append-nil}
-use Rattle.law_order.specs.pg_announced.declared.announced.Announced.{Announced}
-use Rattle.law_order.specs.pg_base.declared.id.FileId.{FileId}
-use Rattle.law_order.specs.pg_base.declared.policy.Policy.{Policy}
-use Rattle.law_order.specs.pg_base.declared.stamp.Stamp.{Stamp}
-use Rattle.law_order.specs.pg_base.Id.{file_cmp, is_same_file}
-use Rattle.law_order.specs.pg_base.Version.{VersionValue}
-use Rattle.law_order.proofs.pg_base.Maps.{lookup-insert_entry}
-use Rattle.law_order.proofs.pg_base.Orders.{file_total, is_same_file-refl}
-use Rattle.law_order.specs.pg_patch.Ranges.{IsRanges}
-use Rattle.law_order.specs.pg_content.Content.{Among}
-use Rattle.law_order.specs.pg_content.History.{Made}
-use Rattle.law_order.specs.pg_delta.declared.delta.KeptDelta.{KeptDelta}
-use Rattle.law_order.specs.pg_delta.Kept.{with_delta}
-use Rattle.law_order.specs.pg_delta.Leading.{IsTrueDelta}
-use Rattle.law_order.specs.pg_delta.Taking.{delta_to, patched_version}
-use Rattle.law_order.specs.pg_msg.declared.message.Delta.{Delta}
-use Rattle.law_order.specs.pg_msg.declared.message.Ends.{Ends}
-use Rattle.law_order.specs.pg_msg.declared.work.Work.{Work}
-use Rattle.law_order.specs.pg_msg.Work.{new_work}
-use Rattle.law_order.specs.pg_pieces.Done.{Done, idle}
-use Rattle.law_order.specs.pg_replica.declared.replica.Replica.{Replica}
-use Rattle.law_order.specs.pg_replica.Replica.{with_kept}
-use Rattle.law_order.specs.pg_replica.Replicas.{replica_in, replicas_keeping}
-use Rattle.law_order.specs.pg_run.Journal.{Born, made_for, with_ancestors}
-use Rattle.law_order.specs.pg_run.Took.{Take, take_of}
-use Rattle.law_order.specs.pg_run.Took.Take.{TookVersion}
-use Rattle.law_order.specs.pg_server.pg_transfer.Delta.{patched}
-use Rattle.law_order.specs.pg_store.declared.store.Store.{Store}
-use Rattle.law_order.specs.pg_store.Store.{keep_delta, replica_at}
-use Rattle.law_order.specs.theory_bodies.Book.{IsHeadOf, IsVersionOf}
-use Rattle.law_order.proofs.theory_bodies.Computing.{HaveRanges}
+use Rattle.pg_run.specs.pg_announced.declared.announced.Announced.{Announced}
+use Rattle.pg_run.specs.pg_base.declared.id.FileId.{FileId}
+use Rattle.pg_run.specs.pg_base.declared.policy.Policy.{Policy}
+use Rattle.pg_run.specs.pg_base.declared.stamp.Stamp.{Stamp}
+use Rattle.pg_run.specs.pg_base.Id.{file_cmp, is_same_file}
+use Rattle.pg_run.specs.pg_base.Version.{VersionValue}
+use Rattle.pg_run.proofs.pg_base.Maps.{lookup-insert_entry}
+use Rattle.pg_run.proofs.pg_base.Orders.{file_total, is_same_file-refl}
+use Rattle.pg_run.specs.pg_patch.Ranges.{IsRanges}
+use Rattle.pg_run.specs.pg_content.Content.{Among}
+use Rattle.pg_run.specs.pg_content.History.{Made}
+use Rattle.pg_run.specs.pg_delta.declared.delta.KeptDelta.{KeptDelta}
+use Rattle.pg_run.specs.pg_delta.Kept.{with_delta}
+use Rattle.pg_run.specs.pg_delta.Leading.{IsTrueDelta}
+use Rattle.pg_run.specs.pg_delta.Taking.{delta_to, patched_version}
+use Rattle.pg_run.specs.pg_msg.declared.message.Delta.{Delta}
+use Rattle.pg_run.specs.pg_msg.declared.message.Ends.{Ends}
+use Rattle.pg_run.specs.pg_msg.declared.work.Work.{Work}
+use Rattle.pg_run.specs.pg_msg.Work.{new_work}
+use Rattle.pg_run.specs.pg_pieces.Done.{Done, idle}
+use Rattle.pg_run.specs.pg_replica.declared.replica.Replica.{Replica}
+use Rattle.pg_run.specs.pg_replica.Replica.{with_kept}
+use Rattle.pg_run.specs.pg_replica.Replicas.{replica_in, replicas_keeping}
+use Rattle.pg_run.specs.Journal.{Born, made_for, with_ancestors}
+use Rattle.pg_run.specs.Took.{Take, take_of}
+use Rattle.pg_run.specs.Took.Take.{TookVersion}
+use Rattle.pg_run.specs.pg_server.pg_transfer.Delta.{patched}
+use Rattle.pg_run.specs.pg_store.declared.store.Store.{Store}
+use Rattle.pg_run.specs.pg_store.Store.{keep_delta, replica_at}
+use Rattle.pg_run.specs.theory_bodies.Book.{IsHeadOf, IsVersionOf}
+use Rattle.pg_run.proofs.theory_bodies.Computing.{HaveRanges}
 use Rattle.law_contents.proofs.Arrivals.{Arrives, more_came}
 use Rattle.law_contents.proofs.Changes.{Alters, Core, by_altered, core_at, core_of}
 use Rattle.law_contents.proofs.Ranges.{ranges_with}

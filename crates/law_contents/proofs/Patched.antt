@@ -3,47 +3,47 @@
 use Rattle.std.proofs.Common.{ℕ, ◌≡◌, ◌≢◌, ◌≤◌, ◌&&◌, ◌==◌, ltb, Bool, true, false, not, cond, List, [], ◌∷◌, ◌++◌, map, Option, None, Some, option_map, refl, sym, ap, subst, ◌∙◌, inl, inr, arith}
 use Rattle.std.proofs.lemmas.Bool.{and_from, and_parts}
 use Rattle.std.proofs.lemmas.Bool.Decides.{Decides-eqb, nat_tests}
-use Rattle.law_order.specs.pg_announced.declared.announced.Announced.{Announced}
-use Rattle.law_order.specs.pg_announced.Announced.{change_note, emptied, is_asked_of as is_noted_of, key_at}
-use Rattle.law_order.proofs.pg_announced.Sorted.{sorted_change}
-use Rattle.law_order.specs.pg_base.declared.head.Head.{Head}
-use Rattle.law_order.specs.pg_base.declared.id.FileId.{FileId}
-use Rattle.law_order.specs.pg_base.declared.policy.Policy.{Policy}
-use Rattle.law_order.specs.pg_base.declared.stamp.Stamp.{Stamp}
-use Rattle.law_order.specs.pg_content.Content.{Among, ContentValue, next_length}
-use Rattle.law_order.specs.pg_content.History.{Made, number_of}
-use Rattle.law_order.proofs.pg_content.Numbers.{numbers_from_one}
-use Rattle.law_order.specs.pg_delta.Chain.{are_same_stamps}
-use Rattle.law_order.specs.pg_delta.Leading.{IsTrueDelta}
-use Rattle.law_order.specs.pg_delta.Taking.{delta_to, patched_version, stamps_of}
-use Rattle.law_order.proofs.pg_delta.Chains.{same_stamps}
-use Rattle.law_order.specs.pg_msg.declared.message.Delta.{Delta}
-use Rattle.law_order.specs.pg_msg.declared.message.Ends.{Ends}
-use Rattle.law_order.specs.pg_msg.declared.message.Message.TheVariants as message
-use Rattle.law_order.specs.pg_msg.declared.work.Work.{Work}
-use Rattle.law_order.specs.pg_msg.Work.{new_work}
-use Rattle.law_order.specs.pg_names.Names.{is_dir}
-use Rattle.law_order.specs.pg_pieces.declared.accepting.EdgeUse.TheVariants as manner
-use Rattle.law_order.specs.pg_pieces.Accepting.{accept, is_accepted}
-use Rattle.law_order.specs.pg_pieces.Done.{Done, idle}
-use Rattle.law_order.specs.pg_replica.declared.replica.Replica.{Replica}
-use Rattle.law_order.specs.pg_replica.Replicas.{or_nothing}
-use Rattle.law_order.specs.pg_run.Asking.{Asked, is_asked_of}
-use Rattle.law_order.specs.pg_run.Carried.{delta_carried}
-use Rattle.law_order.specs.pg_run.Journal.{Born, made_for, with_ancestors}
-use Rattle.law_order.specs.pg_run.Took.{Take, take_of}
-use Rattle.law_order.specs.pg_run.Took.Take.{TookVersion}
-use Rattle.law_order.specs.pg_server.Local.{receive}
-use Rattle.law_order.specs.pg_server.pg_transfer.Asking.{ask, noted}
-use Rattle.law_order.specs.pg_server.pg_transfer.Delta.{changed, changed_along, changed_by, made_at, made_by, patched, refused, serves}
-use Rattle.law_order.specs.pg_store.declared.store.Store.{Store}
-use Rattle.law_order.specs.pg_store.Store.{content_of, replica_at}
-use Rattle.law_order.specs.theory_bodies.Asked.{Asking}
-use Rattle.law_order.specs.theory_bodies.Book.{IsBook, IsVersionOf}
-use Rattle.law_order.specs.theory_bodies.Protocol.{Holding, IsHoldingIn, IsNoteOf, Note}
-use Rattle.law_order.specs.theory_bodies.Telling.Telling.{Silent}
-use Rattle.law_order.proofs.theory_bodies.Books.{one_head}
-use Rattle.law_order.proofs.theory_bodies.Holdings.{patched_is, patched_long}
+use Rattle.pg_run.specs.pg_announced.declared.announced.Announced.{Announced}
+use Rattle.pg_run.specs.pg_announced.Announced.{change_note, emptied, is_asked_of as is_noted_of, key_at}
+use Rattle.pg_run.proofs.pg_announced.Sorted.{sorted_change}
+use Rattle.pg_run.specs.pg_base.declared.head.Head.{Head}
+use Rattle.pg_run.specs.pg_base.declared.id.FileId.{FileId}
+use Rattle.pg_run.specs.pg_base.declared.policy.Policy.{Policy}
+use Rattle.pg_run.specs.pg_base.declared.stamp.Stamp.{Stamp}
+use Rattle.pg_run.specs.pg_content.Content.{Among, ContentValue, next_length}
+use Rattle.pg_run.specs.pg_content.History.{Made, number_of}
+use Rattle.pg_run.proofs.pg_content.Numbers.{numbers_from_one}
+use Rattle.pg_run.specs.pg_delta.Chain.{are_same_stamps}
+use Rattle.pg_run.specs.pg_delta.Leading.{IsTrueDelta}
+use Rattle.pg_run.specs.pg_delta.Taking.{delta_to, patched_version, stamps_of}
+use Rattle.pg_run.proofs.pg_delta.Chains.{same_stamps}
+use Rattle.pg_run.specs.pg_msg.declared.message.Delta.{Delta}
+use Rattle.pg_run.specs.pg_msg.declared.message.Ends.{Ends}
+use Rattle.pg_run.specs.pg_msg.declared.message.Message.TheVariants as message
+use Rattle.pg_run.specs.pg_msg.declared.work.Work.{Work}
+use Rattle.pg_run.specs.pg_msg.Work.{new_work}
+use Rattle.pg_run.specs.pg_names.Names.{is_dir}
+use Rattle.pg_run.specs.pg_pieces.declared.accepting.EdgeUse.TheVariants as manner
+use Rattle.pg_run.specs.pg_pieces.Accepting.{accept, is_accepted}
+use Rattle.pg_run.specs.pg_pieces.Done.{Done, idle}
+use Rattle.pg_run.specs.pg_replica.declared.replica.Replica.{Replica}
+use Rattle.pg_run.specs.pg_replica.Replicas.{or_nothing}
+use Rattle.pg_run.specs.Asking.{Asked, is_asked_of}
+use Rattle.pg_run.specs.Carried.{delta_carried}
+use Rattle.pg_run.specs.Journal.{Born, made_for, with_ancestors}
+use Rattle.pg_run.specs.Took.{Take, take_of}
+use Rattle.pg_run.specs.Took.Take.{TookVersion}
+use Rattle.pg_run.specs.pg_server.Local.{receive}
+use Rattle.pg_run.specs.pg_server.pg_transfer.Asking.{ask, noted}
+use Rattle.pg_run.specs.pg_server.pg_transfer.Delta.{changed, changed_along, changed_by, made_at, made_by, patched, refused, serves}
+use Rattle.pg_run.specs.pg_store.declared.store.Store.{Store}
+use Rattle.pg_run.specs.pg_store.Store.{content_of, replica_at}
+use Rattle.pg_run.specs.theory_bodies.Asked.{Asking}
+use Rattle.pg_run.specs.theory_bodies.Book.{IsBook, IsVersionOf}
+use Rattle.pg_run.specs.theory_bodies.Protocol.{Holding, IsHoldingIn, IsNoteOf, Note}
+use Rattle.pg_run.specs.theory_bodies.Telling.Telling.{Silent}
+use Rattle.pg_run.proofs.theory_bodies.Books.{one_head}
+use Rattle.pg_run.proofs.theory_bodies.Holdings.{patched_is, patched_long}
 use Rattle.law_contents.proofs.Accepted.{accepted_there, answers_idle}
 use Rattle.law_contents.proofs.Agreed.{Agrees}
 use Rattle.law_contents.proofs.Arrivals.{Arrives, quiet_arrives}

@@ -3,41 +3,41 @@ use Rattle.std.proofs.Common.{ℕ, ◌≡◌, ◌≢◌, ◌+◌, ◌==◌, ◌&
 use Rattle.std.specs.Prelude.{nat_le}
 use Rattle.std.proofs.lemmas.Bool.{and_from, and_parts, false≢true, le-leb}
 use Rattle.std.proofs.lemmas.Bool.Decides.{Decides-eqb}
-use Rattle.law_order.specs.pg_announced.declared.announced.Announced.{Announced}
-use Rattle.law_order.specs.pg_announced.declared.announced.NoteKey.{NoteKey}
-use Rattle.law_order.specs.pg_announced.Announced.{AreSorted, NotesValue, change_note, key_at, longer, note_at, without_note}
-use Rattle.law_order.proofs.pg_announced.Found.{same_note, without_found}
-use Rattle.law_order.proofs.pg_announced.Sorted.{sorted_change, sorted_without}
-use Rattle.law_order.specs.pg_base.declared.head.Head.{Head}
-use Rattle.law_order.specs.pg_base.declared.id.FileId.{FileId}
-use Rattle.law_order.specs.pg_base.declared.policy.Policy.{Policy}
-use Rattle.law_order.specs.pg_base.declared.stamp.Stamp.{Stamp}
-use Rattle.law_order.specs.pg_msg.declared.message.Ends.{Ends}
-use Rattle.law_order.specs.pg_msg.declared.message.Message.TheVariants as message
-use Rattle.law_order.specs.pg_msg.declared.message.Piece.{Piece}
-use Rattle.law_order.specs.pg_msg.declared.work.Work.{Work}
-use Rattle.law_order.specs.pg_msg.Ends.{back}
-use Rattle.law_order.specs.pg_msg.Work.{new_work}
-use Rattle.law_order.specs.pg_pieces.Done.{Done, idle}
-use Rattle.law_order.specs.pg_replica.declared.replica.Replica.{Replica}
-use Rattle.law_order.specs.pg_run.Asking.{Asked, is_asked_at}
-use Rattle.law_order.specs.pg_run.Carried.{piece_carried}
-use Rattle.law_order.specs.pg_run.Journal.{Born, made_for}
-use Rattle.law_order.specs.pg_run.Took.{take_of}
-use Rattle.law_order.specs.pg_run.Took.Take.{TookVersion}
-use Rattle.law_order.specs.pg_server.Local.{receive}
-use Rattle.law_order.specs.pg_server.pg_transfer.declared.piecing.Progress.TheVariants as progress
-use Rattle.law_order.specs.pg_server.pg_transfer.Asking.{ask, listed, noted}
-use Rattle.law_order.specs.pg_server.pg_transfer.Piece.{advance, completed, is_last, is_next, lengthened, pieced, pieced_by, whole, without_noted}
-use Rattle.law_order.specs.pg_store.declared.store.Store.{Store}
-use Rattle.law_order.specs.pg_store.Store.{replica_at}
-use Rattle.law_order.specs.theory_bodies.Asked.{AreAgreed, Asking, asking_of}
-use Rattle.law_order.specs.theory_bodies.Book.{IsVersionOf}
-use Rattle.law_order.specs.theory_bodies.Protocol.{IsNoteOf, Note}
-use Rattle.law_order.specs.theory_bodies.Rule.{IsFilled}
-use Rattle.law_order.specs.theory_bodies.Telling.{Telling}
-use Rattle.law_order.specs.theory_bodies.Telling.Telling.{Gives}
-use Rattle.law_order.proofs.theory_bodies.Notes.{come_is}
+use Rattle.pg_run.specs.pg_announced.declared.announced.Announced.{Announced}
+use Rattle.pg_run.specs.pg_announced.declared.announced.NoteKey.{NoteKey}
+use Rattle.pg_run.specs.pg_announced.Announced.{AreSorted, NotesValue, change_note, key_at, longer, note_at, without_note}
+use Rattle.pg_run.proofs.pg_announced.Found.{same_note, without_found}
+use Rattle.pg_run.proofs.pg_announced.Sorted.{sorted_change, sorted_without}
+use Rattle.pg_run.specs.pg_base.declared.head.Head.{Head}
+use Rattle.pg_run.specs.pg_base.declared.id.FileId.{FileId}
+use Rattle.pg_run.specs.pg_base.declared.policy.Policy.{Policy}
+use Rattle.pg_run.specs.pg_base.declared.stamp.Stamp.{Stamp}
+use Rattle.pg_run.specs.pg_msg.declared.message.Ends.{Ends}
+use Rattle.pg_run.specs.pg_msg.declared.message.Message.TheVariants as message
+use Rattle.pg_run.specs.pg_msg.declared.message.Piece.{Piece}
+use Rattle.pg_run.specs.pg_msg.declared.work.Work.{Work}
+use Rattle.pg_run.specs.pg_msg.Ends.{back}
+use Rattle.pg_run.specs.pg_msg.Work.{new_work}
+use Rattle.pg_run.specs.pg_pieces.Done.{Done, idle}
+use Rattle.pg_run.specs.pg_replica.declared.replica.Replica.{Replica}
+use Rattle.pg_run.specs.Asking.{Asked, is_asked_at}
+use Rattle.pg_run.specs.Carried.{piece_carried}
+use Rattle.pg_run.specs.Journal.{Born, made_for}
+use Rattle.pg_run.specs.Took.{take_of}
+use Rattle.pg_run.specs.Took.Take.{TookVersion}
+use Rattle.pg_run.specs.pg_server.Local.{receive}
+use Rattle.pg_run.specs.pg_server.pg_transfer.declared.piecing.Progress.TheVariants as progress
+use Rattle.pg_run.specs.pg_server.pg_transfer.Asking.{ask, listed, noted}
+use Rattle.pg_run.specs.pg_server.pg_transfer.Piece.{advance, completed, is_last, is_next, lengthened, pieced, pieced_by, whole, without_noted}
+use Rattle.pg_run.specs.pg_store.declared.store.Store.{Store}
+use Rattle.pg_run.specs.pg_store.Store.{replica_at}
+use Rattle.pg_run.specs.theory_bodies.Asked.{AreAgreed, Asking, asking_of}
+use Rattle.pg_run.specs.theory_bodies.Book.{IsVersionOf}
+use Rattle.pg_run.specs.theory_bodies.Protocol.{IsNoteOf, Note}
+use Rattle.pg_run.specs.theory_bodies.Rule.{IsFilled}
+use Rattle.pg_run.specs.theory_bodies.Telling.{Telling}
+use Rattle.pg_run.specs.theory_bodies.Telling.Telling.{Gives}
+use Rattle.pg_run.proofs.theory_bodies.Notes.{come_is}
 use Rattle.law_contents.proofs.Agreed.{Agrees}
 use Rattle.law_contents.proofs.Answers.{Brings, Met, Taken, again_comes, answered, carry, is_book, met_agreed, met_frame, met_from, met_quiet, met_replica, met_stands, noted_head, nothing_comes, number_some}
 use Rattle.law_contents.proofs.Arrivals.{Arrives}

@@ -1,38 +1,38 @@
 -- What each piece of an event leaves of replicas' births and contents: all of them, but where one
 -- begins.
 use Rattle.std.proofs.Common.{ℕ, ◌≡◌, ◌≤◌, Bool, true, false, List, [], ◌∷◌, Option, None, Some, refl, ap, subst, ◌∙◌, arith}
-use Rattle.law_order.specs.pg_base.declared.id.FileId.{FileId}
-use Rattle.law_order.specs.pg_base.declared.policy.Policy.{Policy}
-use Rattle.law_order.specs.pg_base.Id.{is_same_file}
-use Rattle.law_order.proofs.pg_base.Orders.{is_same_file-true}
-use Rattle.law_order.specs.pg_edges.declared.key.Key.{Key}
-use Rattle.law_order.specs.pg_edges.declared.key.Key.TheVariants as key
-use Rattle.law_order.specs.pg_entries.declared.entry.Entry.{Entry}
-use Rattle.law_order.specs.pg_intent.declared.intent.Intent.{Intent}
-use Rattle.law_order.specs.pg_intent.declared.intent.Intent.TheVariants as intent
-use Rattle.law_order.specs.pg_intent.declared.key.IntentKey.{IntentKey}
-use Rattle.law_order.specs.pg_intent.Intents.{ended, intent_at}
-use Rattle.law_order.specs.pg_msg.declared.work.Touched.{Touched}
-use Rattle.law_order.specs.pg_names.declared.attributes.Attributes.{Attributes}
-use Rattle.law_order.specs.pg_names.Names.{InodeValue, NamesValue, fill, filled, is_full_of, join_entry, join_flag, join_place, known, raise, update, with_flag, with_joined, with_place}
-use Rattle.law_order.proofs.pg_names.Holding.{begun_other, fill_other, fill_same, full_kept}
-use Rattle.law_order.proofs.pg_names.Lookups.{update_frame}
-use Rattle.law_order.specs.pg_register.declared.flag.Flag.{Flag}
-use Rattle.law_order.specs.pg_register.declared.place.Place.{Place}
-use Rattle.law_order.specs.pg_replica.declared.link.Link.{Link}
-use Rattle.law_order.specs.pg_replica.Replica.{new_replica}
-use Rattle.law_order.specs.pg_replica.Replicas.{replicas_unlinked}
-use Rattle.law_order.specs.pg_store.declared.store.Store.{Store}
-use Rattle.law_order.specs.pg_store.declared.wishes.Wish.{Wish}
-use Rattle.law_order.specs.pg_store.Beginning.{begin, patches_of, put_new, take_patch, take_patches, take_told, take_told_in, with_intents}
-use Rattle.law_order.specs.pg_store.Births.{with_birth, with_wish, with_wishes}
-use Rattle.law_order.specs.pg_store.Links.{is_linked, is_new_link, keys, link, put_link, unlink}
-use Rattle.law_order.specs.pg_store.Seen.{removed_of, server_of}
-use Rattle.law_order.specs.pg_store.Store.{acknowledge, is_full, is_newer_entry, is_newer_flag, is_newer_place, put_entry, put_flag, put_place, replica_at, take_entry, take_flag, take_place, touch, with_names}
-use Rattle.law_order.specs.pg_store.Wishes.{WishesValue}
-use Rattle.law_order.specs.pg_cells.Settling.{touch_all}
-use Rattle.law_order.specs.pg_calls.Naming.{with_id}
-use Rattle.law_order.proofs.theory_flood_pieces.Choices.{chosen}
+use Rattle.pg_run.specs.pg_base.declared.id.FileId.{FileId}
+use Rattle.pg_run.specs.pg_base.declared.policy.Policy.{Policy}
+use Rattle.pg_run.specs.pg_base.Id.{is_same_file}
+use Rattle.pg_run.proofs.pg_base.Orders.{is_same_file-true}
+use Rattle.pg_run.specs.pg_edges.declared.key.Key.{Key}
+use Rattle.pg_run.specs.pg_edges.declared.key.Key.TheVariants as key
+use Rattle.pg_run.specs.pg_entries.declared.entry.Entry.{Entry}
+use Rattle.pg_run.specs.pg_intent.declared.intent.Intent.{Intent}
+use Rattle.pg_run.specs.pg_intent.declared.intent.Intent.TheVariants as intent
+use Rattle.pg_run.specs.pg_intent.declared.key.IntentKey.{IntentKey}
+use Rattle.pg_run.specs.pg_intent.Intents.{ended, intent_at}
+use Rattle.pg_run.specs.pg_msg.declared.work.Touched.{Touched}
+use Rattle.pg_run.specs.pg_names.declared.attributes.Attributes.{Attributes}
+use Rattle.pg_run.specs.pg_names.Names.{InodeValue, NamesValue, fill, filled, is_full_of, join_entry, join_flag, join_place, known, raise, update, with_flag, with_joined, with_place}
+use Rattle.pg_run.proofs.pg_names.Holding.{begun_other, fill_other, fill_same, full_kept}
+use Rattle.pg_run.proofs.pg_names.Lookups.{update_frame}
+use Rattle.pg_run.specs.pg_register.declared.flag.Flag.{Flag}
+use Rattle.pg_run.specs.pg_register.declared.place.Place.{Place}
+use Rattle.pg_run.specs.pg_replica.declared.link.Link.{Link}
+use Rattle.pg_run.specs.pg_replica.Replica.{new_replica}
+use Rattle.pg_run.specs.pg_replica.Replicas.{replicas_unlinked}
+use Rattle.pg_run.specs.pg_store.declared.store.Store.{Store}
+use Rattle.pg_run.specs.pg_store.declared.wishes.Wish.{Wish}
+use Rattle.pg_run.specs.pg_store.Beginning.{begin, patches_of, put_new, take_patch, take_patches, take_told, take_told_in, with_intents}
+use Rattle.pg_run.specs.pg_store.Births.{with_birth, with_wish, with_wishes}
+use Rattle.pg_run.specs.pg_store.Links.{is_linked, is_new_link, keys, link, put_link, unlink}
+use Rattle.pg_run.specs.pg_store.Seen.{removed_of, server_of}
+use Rattle.pg_run.specs.pg_store.Store.{acknowledge, is_full, is_newer_entry, is_newer_flag, is_newer_place, put_entry, put_flag, put_place, replica_at, take_entry, take_flag, take_place, touch, with_names}
+use Rattle.pg_run.specs.pg_store.Wishes.{WishesValue}
+use Rattle.pg_run.specs.pg_cells.Settling.{touch_all}
+use Rattle.pg_run.specs.pg_calls.Naming.{with_id}
+use Rattle.pg_run.proofs.theory_flood_pieces.Choices.{chosen}
 use Rattle.law_contents.proofs.Changes.{Alters, IsOrdered, Keeps, Keeps-refl, Keeps-trans, StaysFull, alters_keeps, core_at, core_of, new_core, none_end}
 use Rattle.law_contents.proofs.Cores.{acked_order, acked_same, linked_order, linked_same, put_elsewhere, put_here, put_order, raised_up, touched_order, touched_same, unlinked_order, unlinked_same}
 

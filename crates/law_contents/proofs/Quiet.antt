@@ -1,38 +1,38 @@
 -- Pieces of an event that change no content and make no version.
 use Rattle.std.proofs.Common.{ℕ, ◌≡◌, ◌&&◌, Bool, true, false, not, List, [], ◌∷◌, ◌++◌, map, refl, sym, ap, subst, ◌∙◌}
-use Rattle.law_order.specs.pg_base.declared.id.FileId.{FileId}
-use Rattle.law_order.specs.pg_base.declared.policy.Policy.{Policy}
-use Rattle.law_order.specs.pg_edges.declared.key.Key.{Key}
-use Rattle.law_order.specs.pg_edges.declared.key.Key.TheVariants as key
-use Rattle.law_order.specs.pg_entries.declared.entry.Entry.{Entry}
-use Rattle.law_order.specs.pg_house.Work.{is_root, note_left}
-use Rattle.law_order.specs.pg_intent.declared.intent.Intent.{Intent}
-use Rattle.law_order.specs.pg_intent.Intent.{key_of}
-use Rattle.law_order.specs.pg_intent.Intents.{begun, stands}
-use Rattle.law_order.specs.pg_msg.declared.message.Message.{Message}
-use Rattle.law_order.specs.pg_msg.declared.update.MadeVersion.{MadeVersion}
-use Rattle.law_order.specs.pg_msg.declared.update.Update.{Update}
-use Rattle.law_order.specs.pg_msg.declared.update.Update.TheVariants as update
-use Rattle.law_order.specs.pg_msg.declared.work.Work.{Work}
-use Rattle.law_order.specs.pg_msg.Work.{with_begun, with_left, with_linked, with_made, with_tail, with_unsure}
-use Rattle.law_order.specs.pg_names.Names.{own_or_blank}
-use Rattle.law_order.specs.pg_register.declared.flag.Flag.{Flag}
-use Rattle.law_order.specs.pg_register.declared.place.Place.{Place}
-use Rattle.law_order.specs.pg_run.Journal.{Born, versions_in}
-use Rattle.law_order.specs.pg_run.Took.{stamp_taken_by, stamps_taken, take_of}
-use Rattle.law_order.specs.pg_store.declared.store.Store.{Store}
-use Rattle.law_order.specs.pg_store.Beginning.{with_intents}
-use Rattle.law_order.specs.pg_store.Links.{is_new_link, link}
-use Rattle.law_order.specs.pg_store.Store.{entry_news, is_newer_flag, is_newer_place, take_entry, take_flag, take_place}
-use Rattle.law_order.proofs.pg_pieces.News.{news_made, news_sent}
-use Rattle.law_order.specs.pg_pieces.Accepting.{link_peer}
-use Rattle.law_order.specs.pg_pieces.Done.{Done, idle}
-use Rattle.law_order.specs.pg_pieces.Intending.{begin_intent, with_begun_if}
-use Rattle.law_order.specs.pg_pieces.Making.{lower_flag, make_flag, own_next, raise_flag}
-use Rattle.law_order.specs.pg_pieces.Posting.{post, sent_to}
-use Rattle.law_order.specs.pg_pieces.Taking.{is_any_news, is_place_news, take_entry_cell, take_entry_noted, take_flag_noted, take_flags_noted, take_place_noted, with_left_if, with_news}
-use Rattle.law_order.specs.pg_calls.Making.{make_place}
-use Rattle.law_order.proofs.theory_flood_pieces.Choices.{chosen}
+use Rattle.pg_run.specs.pg_base.declared.id.FileId.{FileId}
+use Rattle.pg_run.specs.pg_base.declared.policy.Policy.{Policy}
+use Rattle.pg_run.specs.pg_edges.declared.key.Key.{Key}
+use Rattle.pg_run.specs.pg_edges.declared.key.Key.TheVariants as key
+use Rattle.pg_run.specs.pg_entries.declared.entry.Entry.{Entry}
+use Rattle.pg_run.specs.pg_house.Work.{is_root, note_left}
+use Rattle.pg_run.specs.pg_intent.declared.intent.Intent.{Intent}
+use Rattle.pg_run.specs.pg_intent.Intent.{key_of}
+use Rattle.pg_run.specs.pg_intent.Intents.{begun, stands}
+use Rattle.pg_run.specs.pg_msg.declared.message.Message.{Message}
+use Rattle.pg_run.specs.pg_msg.declared.update.MadeVersion.{MadeVersion}
+use Rattle.pg_run.specs.pg_msg.declared.update.Update.{Update}
+use Rattle.pg_run.specs.pg_msg.declared.update.Update.TheVariants as update
+use Rattle.pg_run.specs.pg_msg.declared.work.Work.{Work}
+use Rattle.pg_run.specs.pg_msg.Work.{with_begun, with_left, with_linked, with_made, with_tail, with_unsure}
+use Rattle.pg_run.specs.pg_names.Names.{own_or_blank}
+use Rattle.pg_run.specs.pg_register.declared.flag.Flag.{Flag}
+use Rattle.pg_run.specs.pg_register.declared.place.Place.{Place}
+use Rattle.pg_run.specs.Journal.{Born, versions_in}
+use Rattle.pg_run.specs.Took.{stamp_taken_by, stamps_taken, take_of}
+use Rattle.pg_run.specs.pg_store.declared.store.Store.{Store}
+use Rattle.pg_run.specs.pg_store.Beginning.{with_intents}
+use Rattle.pg_run.specs.pg_store.Links.{is_new_link, link}
+use Rattle.pg_run.specs.pg_store.Store.{entry_news, is_newer_flag, is_newer_place, take_entry, take_flag, take_place}
+use Rattle.pg_run.proofs.pg_pieces.News.{news_made, news_sent}
+use Rattle.pg_run.specs.pg_pieces.Accepting.{link_peer}
+use Rattle.pg_run.specs.pg_pieces.Done.{Done, idle}
+use Rattle.pg_run.specs.pg_pieces.Intending.{begin_intent, with_begun_if}
+use Rattle.pg_run.specs.pg_pieces.Making.{lower_flag, make_flag, own_next, raise_flag}
+use Rattle.pg_run.specs.pg_pieces.Posting.{post, sent_to}
+use Rattle.pg_run.specs.pg_pieces.Taking.{is_any_news, is_place_news, take_entry_cell, take_entry_noted, take_flag_noted, take_flags_noted, take_place_noted, with_left_if, with_news}
+use Rattle.pg_run.specs.pg_calls.Making.{make_place}
+use Rattle.pg_run.proofs.theory_flood_pieces.Choices.{chosen}
 use Rattle.law_contents.proofs.Asking.{last_carry, post_carry}
 use Rattle.law_contents.proofs.Carrying.{Carries}
 use Rattle.law_contents.proofs.Changes.{Keeps, Keeps-refl, Keeps-trans}

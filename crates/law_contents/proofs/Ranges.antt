@@ -2,28 +2,28 @@
 use Rattle.std.proofs.Common.{ℕ, ◌≡◌, ◌≤◌, ◌+◌, ◌^◌, ◌-◌, Bool, true, false, cond, eqb, ltb, max, min, List, [], ◌∷◌, length, map, Ok, refl, sym, subst, inl, inr, arith}
 use Rattle.std.proofs.lemmas.Bool.{ltb-false}
 use Rattle.std.proofs.lemmas.Bool.Decides.{nat_tests}
-use Rattle.law_order.specs.pg_base.declared.id.FileId.{FileId}
-use Rattle.law_order.specs.pg_patch.Ranges.{IsRanges, RangesValue, applied, body_limit, cut_to, kept, length_of, written}
-use Rattle.law_order.specs.pg_base.declared.policy.Policy.{Policy}
-use Rattle.law_order.specs.pg_base.declared.policy.Policy.TheVariants.{Join, Last}
-use Rattle.law_order.specs.pg_base.declared.stamp.Stamp.{Stamp}
-use Rattle.law_order.specs.pg_base.Version.{VersionValue}
-use Rattle.law_order.specs.pg_content.Content.{ContentValue, next_length, shown_bytes}
-use Rattle.law_order.specs.pg_content.Shown.{shown}
-use Rattle.law_order.specs.pg_delta.declared.delta.KeptDelta.{KeptDelta}
-use Rattle.law_order.specs.pg_delta.Kept.{with_delta}
-use Rattle.law_order.proofs.pg_delta.Fronts.{length_is}
-use Rattle.law_order.specs.pg_call.declared.refusal.Refusal.TheVariants.{ManyActors, TooLong}
-use Rattle.law_order.specs.pg_replica.Replica.{has_many_actors, is_too_long}
-use Rattle.law_order.specs.pg_store.declared.store.Store.{Store}
-use Rattle.law_order.specs.pg_store.Seen.{server_of}
-use Rattle.law_order.specs.pg_store.Store.{content_of, replica_of}
-use Rattle.law_order.specs.pg_checks.Answer.{unless}
-use Rattle.law_order.specs.pg_calls.Bodies.{when_fit}
-use Rattle.law_order.specs.pg_calls.Making.{first_ranges}
-use Rattle.law_order.proofs.pg_calls.Checked.{behind, fit_found, unless_ok}
-use Rattle.law_order.proofs.theory_bodies.Computing.{HaveRanges}
-use Rattle.law_order.proofs.theory_bodies.Holdings.{with_among}
+use Rattle.pg_run.specs.pg_base.declared.id.FileId.{FileId}
+use Rattle.pg_run.specs.pg_patch.Ranges.{IsRanges, RangesValue, applied, body_limit, cut_to, kept, length_of, written}
+use Rattle.pg_run.specs.pg_base.declared.policy.Policy.{Policy}
+use Rattle.pg_run.specs.pg_base.declared.policy.Policy.TheVariants.{Join, Last}
+use Rattle.pg_run.specs.pg_base.declared.stamp.Stamp.{Stamp}
+use Rattle.pg_run.specs.pg_base.Version.{VersionValue}
+use Rattle.pg_run.specs.pg_content.Content.{ContentValue, next_length, shown_bytes}
+use Rattle.pg_run.specs.pg_content.Shown.{shown}
+use Rattle.pg_run.specs.pg_delta.declared.delta.KeptDelta.{KeptDelta}
+use Rattle.pg_run.specs.pg_delta.Kept.{with_delta}
+use Rattle.pg_run.proofs.pg_delta.Fronts.{length_is}
+use Rattle.pg_run.specs.pg_call.declared.refusal.Refusal.TheVariants.{ManyActors, TooLong}
+use Rattle.pg_run.specs.pg_replica.Replica.{has_many_actors, is_too_long}
+use Rattle.pg_run.specs.pg_store.declared.store.Store.{Store}
+use Rattle.pg_run.specs.pg_store.Seen.{server_of}
+use Rattle.pg_run.specs.pg_store.Store.{content_of, replica_of}
+use Rattle.pg_run.specs.pg_checks.Answer.{unless}
+use Rattle.pg_run.specs.pg_calls.Bodies.{when_fit}
+use Rattle.pg_run.specs.pg_calls.Making.{first_ranges}
+use Rattle.pg_run.proofs.pg_calls.Checked.{behind, fit_found, unless_ok}
+use Rattle.pg_run.proofs.theory_bodies.Computing.{HaveRanges}
+use Rattle.pg_run.proofs.theory_bodies.Holdings.{with_among}
 
 -- one delta more
 pub ranges_with : (deltas : List KeptDelta) (e : KeptDelta) → HaveRanges deltas → IsRanges e.ranges

@@ -1,15 +1,15 @@
 -- The history has the versions that entries tell of.
 use Rattle.std.proofs.Common.{ℕ, ◌≡◌, List, [], ◌∷◌, ◌++◌, map, refl, ap, ◌∙◌}
 use Rattle.std.proofs.lemmas.List.{map-append}
-use Rattle.law_order.specs.pg_event.declared.event.Event.{Event}
-use Rattle.law_order.specs.pg_msg.declared.update.MadeVersion.{MadeVersion}
-use Rattle.law_order.specs.pg_run.Histories.{HistoryIsWhatWasMade}
-use Rattle.law_order.specs.pg_run.Journal.{Born, born_at, made_versions, versions_in}
-use Rattle.law_order.proofs.pg_run.Frame.{holds_in_runs, no_server_comes}
-use Rattle.law_order.specs.pg_run.Run.{run, World, effect_step, world_after}
-use Rattle.law_order.specs.pg_server.declared.input.Input.{Input}
-use Rattle.law_order.specs.pg_server.Local.{effect}
-use Rattle.law_order.specs.pg_store.declared.store.Store.{Store}
+use Rattle.pg_run.specs.pg_event.declared.event.Event.{Event}
+use Rattle.pg_run.specs.pg_msg.declared.update.MadeVersion.{MadeVersion}
+use Rattle.pg_run.specs.Histories.{HistoryIsWhatWasMade}
+use Rattle.pg_run.specs.Journal.{Born, born_at, made_versions, versions_in}
+use Rattle.pg_run.proofs.Frame.{holds_in_runs, no_server_comes}
+use Rattle.pg_run.specs.Run.{run, World, effect_step, world_after}
+use Rattle.pg_run.specs.pg_server.declared.input.Input.{Input}
+use Rattle.pg_run.specs.pg_server.Local.{effect}
+use Rattle.pg_run.specs.pg_store.declared.store.Store.{Store}
 
 abbrev made_by : Born → MadeVersion
 made_by u = u.made

@@ -1,26 +1,26 @@
 -- What the house rules make: places only. And the clock does not fall.
 use Rattle.std.proofs.Common.{ℕ, ◌≡◌, ◌≤◌, ◌+◌, ◌^◌, max, min, List, [], ◌∷◌, ◌++◌, length, Option, None, Some, refl, sym, ap, ◌∙◌, arith}
 use Rattle.std.proofs.lemmas.List.{append-nil, append_assoc}
-use Rattle.law_order.specs.pg_base.declared.id.FileId.{FileId}
-use Rattle.law_order.specs.pg_edges.declared.key.Key.TheVariants as key
-use Rattle.law_order.specs.pg_register.declared.place.Place.{Place}
-use Rattle.law_order.specs.pg_register.Place.{root, tilde_name}
-use Rattle.law_order.specs.pg_msg.declared.update.Update.{Update}
-use Rattle.law_order.specs.pg_msg.declared.update.Update.TheVariants as update
-use Rattle.law_order.specs.pg_msg.Work.{with_made, with_touched}
-use Rattle.law_order.specs.pg_names.declared.attributes.Attributes.{Attributes}
-use Rattle.law_order.specs.pg_names.Names.{directories, own_at, with_last, with_own}
-use Rattle.law_order.proofs.pg_names.Lookups.{update_frame}
-use Rattle.law_order.specs.pg_house.Work.{State}
-use Rattle.law_order.specs.pg_house.Passing.{greatest, is_held_back, pass, pass_all, pass_own}
-use Rattle.law_order.specs.pg_house.Placing.{drawn, live_place, made_at, own_with, place_at, placed, repeated}
-use Rattle.law_order.specs.pg_house.Returning.{first_returning, return_first, returned}
-use Rattle.law_order.specs.pg_house.Cycles.{break_first, first_moving, moved}
-use Rattle.law_order.specs.pg_house.House.{house, movable}
-use Rattle.law_order.proofs.pg_house.Lasting.{pass_all_last, placed_last}
-use Rattle.law_order.proofs.pg_house.Repeating.{repeated_keeps}
-use Rattle.law_order.proofs.pg_house.AfterPassing.{after_frame}
-use Rattle.law_order.proofs.pg_house.Made.{all_made, left_made, pass_made}
+use Rattle.pg_run.specs.pg_base.declared.id.FileId.{FileId}
+use Rattle.pg_run.specs.pg_edges.declared.key.Key.TheVariants as key
+use Rattle.pg_run.specs.pg_register.declared.place.Place.{Place}
+use Rattle.pg_run.specs.pg_register.Place.{root, tilde_name}
+use Rattle.pg_run.specs.pg_msg.declared.update.Update.{Update}
+use Rattle.pg_run.specs.pg_msg.declared.update.Update.TheVariants as update
+use Rattle.pg_run.specs.pg_msg.Work.{with_made, with_touched}
+use Rattle.pg_run.specs.pg_names.declared.attributes.Attributes.{Attributes}
+use Rattle.pg_run.specs.pg_names.Names.{directories, own_at, with_last, with_own}
+use Rattle.pg_run.proofs.pg_names.Lookups.{update_frame}
+use Rattle.pg_run.specs.pg_house.Work.{State}
+use Rattle.pg_run.specs.pg_house.Passing.{greatest, is_held_back, pass, pass_all, pass_own}
+use Rattle.pg_run.specs.pg_house.Placing.{drawn, live_place, made_at, own_with, place_at, placed, repeated}
+use Rattle.pg_run.specs.pg_house.Returning.{first_returning, return_first, returned}
+use Rattle.pg_run.specs.pg_house.Cycles.{break_first, first_moving, moved}
+use Rattle.pg_run.specs.pg_house.House.{house, movable}
+use Rattle.pg_run.proofs.pg_house.Lasting.{pass_all_last, placed_last}
+use Rattle.pg_run.proofs.pg_house.Repeating.{repeated_keeps}
+use Rattle.pg_run.proofs.pg_house.AfterPassing.{after_frame}
+use Rattle.pg_run.proofs.pg_house.Made.{all_made, left_made, pass_made}
 
 -- ---- updates of names
 

@@ -1,24 +1,24 @@
 -- What holds of contents after any events.
 use Rattle.std.proofs.Common.{ℕ, ◌<◌, ◌^◌, List, option_map, refl, ap, ◌∙◌}
 use Rattle.std.proofs.lemmas.List.Elements.{All-contains}
-use Rattle.law_order.specs.pg_base.declared.id.FileId.{FileId}
-use Rattle.law_order.specs.pg_base.declared.policy.Policy.{Policy}
-use Rattle.law_order.specs.pg_content.History.{IsHistory}
-use Rattle.law_order.specs.pg_content.StandsFor.{IsClosed, StandsFor, content_of}
-use Rattle.law_order.proofs.pg_content.Ancestry.{ancestry}
-use Rattle.law_order.proofs.pg_content.HeadsOf.{content_is, content_stands}
-use Rattle.law_order.proofs.pg_content.Standing.{same_content}
-use Rattle.law_order.specs.pg_event.declared.event.Event.{Event}
-use Rattle.law_order.specs.pg_msg.declared.message.Message.{Message}
-use Rattle.law_order.specs.pg_msg.declared.message.Message.TheVariants as message
-use Rattle.law_order.specs.pg_entries.declared.cell.Cell.{Cell}
-use Rattle.law_order.specs.pg_entries.declared.cell.Cell.TheVariants as cell
-use Rattle.law_order.specs.pg_run.Histories.{AncestryByVectors, BringsVersion, CarriesHistory, MakesHistories, OneVersionAStamp, StateIsDetermined, StateIsItsHeads, TellsOfHistory}
-use Rattle.law_order.specs.pg_run.Journal.{mail, versions}
-use Rattle.law_order.specs.pg_run.Laws.{HoldsWhatItTook}
-use Rattle.law_order.specs.pg_run.Run.{World, run}
-use Rattle.law_order.specs.pg_run.State.{policy_made, versions_taken}
-use Rattle.law_order.proofs.pg_run.Lists.{contained_among}
+use Rattle.pg_run.specs.pg_base.declared.id.FileId.{FileId}
+use Rattle.pg_run.specs.pg_base.declared.policy.Policy.{Policy}
+use Rattle.pg_run.specs.pg_content.History.{IsHistory}
+use Rattle.pg_run.specs.pg_content.StandsFor.{IsClosed, StandsFor, content_of}
+use Rattle.pg_run.proofs.pg_content.Ancestry.{ancestry}
+use Rattle.pg_run.proofs.pg_content.HeadsOf.{content_is, content_stands}
+use Rattle.pg_run.proofs.pg_content.Standing.{same_content}
+use Rattle.pg_run.specs.pg_event.declared.event.Event.{Event}
+use Rattle.pg_run.specs.pg_msg.declared.message.Message.{Message}
+use Rattle.pg_run.specs.pg_msg.declared.message.Message.TheVariants as message
+use Rattle.pg_run.specs.pg_entries.declared.cell.Cell.{Cell}
+use Rattle.pg_run.specs.pg_entries.declared.cell.Cell.TheVariants as cell
+use Rattle.pg_run.specs.Histories.{AncestryByVectors, BringsVersion, CarriesHistory, MakesHistories, OneVersionAStamp, StateIsDetermined, StateIsItsHeads, TellsOfHistory}
+use Rattle.pg_run.specs.Journal.{mail, versions}
+use Rattle.pg_run.specs.Laws.{HoldsWhatItTook}
+use Rattle.pg_run.specs.Run.{World, run}
+use Rattle.pg_run.specs.State.{policy_made, versions_taken}
+use Rattle.pg_run.proofs.Lists.{contained_among}
 use Rattle.law_contents.specs.Together.{StandOn}
 use Rattle.law_contents.proofs.Carrying.{Carries, CarriesCell, policies}
 use Rattle.law_contents.proofs.Changes.{core_of}

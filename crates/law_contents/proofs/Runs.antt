@@ -3,32 +3,32 @@ use Rattle.std.proofs.Common.{ℕ, ◌≡◌, ◌<◌, ◌≤◌, ◌^◌, Bool,
 use Rattle.std.proofs.lemmas.List.Elements.{All-contains}
 use Rattle.std.proofs.lemmas.Option.{none-some, same_Some}
 use mathlib.Core.Path.{fun_ext}
-use Rattle.law_order.specs.pg_base.declared.id.FileId.{FileId}
-use Rattle.law_order.specs.pg_base.declared.policy.Policy.{Policy}
-use Rattle.law_order.specs.pg_call.declared.call.Call.{Call}
-use Rattle.law_order.proofs.theory_flood.Flood.{after_itself}
-use Rattle.law_order.specs.pg_event.declared.entry.VoidCause.{VoidCause}
-use Rattle.law_order.specs.pg_event.declared.event.Event.{Event}
-use Rattle.law_order.specs.pg_event.declared.event.Event.TheVariants.{Call as Called, Tick, Deliver, Lose, Repeat, Restart, Remove}
-use Rattle.law_order.specs.pg_msg.declared.message.Sent.{Sent}
-use Rattle.law_order.specs.pg_msg.declared.update.MadeVersion.{MadeVersion}
-use Rattle.law_order.specs.pg_msg.Work.{new_work}
-use Rattle.law_order.specs.pg_calls.Calls.{do_call}
-use Rattle.law_order.specs.pg_run.Asked.{asked_behind}
-use Rattle.law_order.specs.pg_run.Asking.{Asked}
-use Rattle.law_order.specs.pg_run.Journal.{Born, bag, born_at, mail, message_at, removals}
-use Rattle.law_order.specs.pg_run.Laws.{AtEach}
-use Rattle.law_order.specs.pg_run.Run.{Step, Taking, World, effect_step, idle_step, is_due, is_live, run, start, taking_in, taking_message, took_after, world_after}
-use Rattle.law_order.specs.pg_run.State.{is_made, policy_asked, policy_named, policy_by, policy_made}
-use Rattle.law_order.specs.pg_run.Took.{Take}
-use Rattle.law_order.proofs.pg_run.Frame.{Acts, HasCome, holds_in_runs, next_is, no_server_comes, run_more}
-use Rattle.law_order.specs.pg_server.declared.input.Input.{Input}
-use Rattle.law_order.specs.pg_server.declared.input.Input.TheVariants as input
-use Rattle.law_order.specs.pg_server.Local.{Effect, closed, done_of, effect, finished}
-use Rattle.law_order.specs.pg_store.declared.store.Store.{Store}
-use Rattle.law_order.specs.pg_store.Together.{BirthsMove}
-use Rattle.law_order.specs.pg_store.Store.{is_before_clock_end}
-use Rattle.law_order.proofs.theory_flood_pieces.Choices.{chosen}
+use Rattle.pg_run.specs.pg_base.declared.id.FileId.{FileId}
+use Rattle.pg_run.specs.pg_base.declared.policy.Policy.{Policy}
+use Rattle.pg_run.specs.pg_call.declared.call.Call.{Call}
+use Rattle.pg_run.proofs.theory_flood.Flood.{after_itself}
+use Rattle.pg_run.specs.pg_event.declared.entry.VoidCause.{VoidCause}
+use Rattle.pg_run.specs.pg_event.declared.event.Event.{Event}
+use Rattle.pg_run.specs.pg_event.declared.event.Event.TheVariants.{Call as Called, Tick, Deliver, Lose, Repeat, Restart, Remove}
+use Rattle.pg_run.specs.pg_msg.declared.message.Sent.{Sent}
+use Rattle.pg_run.specs.pg_msg.declared.update.MadeVersion.{MadeVersion}
+use Rattle.pg_run.specs.pg_msg.Work.{new_work}
+use Rattle.pg_run.specs.pg_calls.Calls.{do_call}
+use Rattle.pg_run.specs.Asked.{asked_behind}
+use Rattle.pg_run.specs.Asking.{Asked}
+use Rattle.pg_run.specs.Journal.{Born, bag, born_at, mail, message_at, removals}
+use Rattle.pg_run.specs.Laws.{AtEach}
+use Rattle.pg_run.specs.Run.{Step, Taking, World, effect_step, idle_step, is_due, is_live, run, start, taking_in, taking_message, took_after, world_after}
+use Rattle.pg_run.specs.State.{is_made, policy_asked, policy_named, policy_by, policy_made}
+use Rattle.pg_run.specs.Took.{Take}
+use Rattle.pg_run.proofs.Frame.{Acts, HasCome, holds_in_runs, next_is, no_server_comes, run_more}
+use Rattle.pg_run.specs.pg_server.declared.input.Input.{Input}
+use Rattle.pg_run.specs.pg_server.declared.input.Input.TheVariants as input
+use Rattle.pg_run.specs.pg_server.Local.{Effect, closed, done_of, effect, finished}
+use Rattle.pg_run.specs.pg_store.declared.store.Store.{Store}
+use Rattle.pg_run.specs.pg_store.Together.{BirthsMove}
+use Rattle.pg_run.specs.pg_store.Store.{is_before_clock_end}
+use Rattle.pg_run.proofs.theory_flood_pieces.Choices.{chosen}
 use Rattle.law_contents.specs.Together.{GoTogether, StandOn}
 use Rattle.law_contents.proofs.Agreeing.{agrees_behind}
 use Rattle.law_contents.proofs.AsksInputs.{CarriesInput}
@@ -40,8 +40,8 @@ use Rattle.law_contents.proofs.Paired.{paired, past_now}
 use Rattle.law_contents.proofs.Sending.{CarriesSent}
 use Rattle.law_contents.proofs.Servers.{IsServer, came_of}
 use Rattle.law_contents.proofs.Start.{sound_start}
-use Rattle.law_order.specs.pg_calls.Forgetting.{is_wanted}
-use Rattle.law_order.specs.pg_store.Store.{is_held}
+use Rattle.pg_run.specs.pg_calls.Forgetting.{is_wanted}
+use Rattle.pg_run.specs.pg_store.Store.{is_held}
 use Rattle.law_contents.proofs.Wanted.{wanted_run}
 use Rattle.law_contents.proofs.Worlds.{IsNamed, Sound, making_sound, passive_sound, server_stands}
 

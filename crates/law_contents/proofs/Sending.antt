@@ -2,41 +2,41 @@
 use Rattle.std.proofs.Common.{ℕ, ◌≡◌, Bool, true, false, cond, List, [], ◌∷◌, ◌++◌, Option, None, Some, refl, sym, ap, subst, ◌∙◌, inr, All}
 use Rattle.std.specs.Prelude.{nat_lt}
 use Rattle.std.proofs.lemmas.List.Elements.{All-append, All-nil, All-weaker}
-use Rattle.law_order.specs.pg_base.declared.head.Head.{Head}
-use Rattle.law_order.specs.pg_base.declared.id.FileId.{FileId}
-use Rattle.law_order.specs.pg_base.declared.policy.Policy.{Policy}
-use Rattle.law_order.specs.pg_base.Id.{is_same_file}
-use Rattle.law_order.specs.pg_base.Version.{VersionValue}
-use Rattle.law_order.specs.pg_content.Content.{Among, ContentValue}
-use Rattle.law_order.specs.pg_content.History.{IsHistory, Made, body_of}
-use Rattle.law_order.proofs.pg_content.StandsWritten.{earlier_version}
-use Rattle.law_order.specs.pg_delta.declared.delta.KeptDelta.{KeptDelta}
-use Rattle.law_order.specs.pg_delta.Leading.{IsTrueDelta}
-use Rattle.law_order.specs.pg_delta.Taking.{delta_to}
-use Rattle.law_order.proofs.pg_delta.Leads.{true_later}
-use Rattle.law_order.specs.pg_edges.declared.key.Key.{Key}
-use Rattle.law_order.specs.pg_edges.declared.key.Key.TheVariants as key
-use Rattle.law_order.specs.pg_entries.declared.cell.Cell.{Cell}
-use Rattle.law_order.specs.pg_entries.declared.cell.Cell.TheVariants as cell
-use Rattle.law_order.specs.pg_entries.declared.entry.Entry.{Entry}
-use Rattle.law_order.specs.pg_msg.declared.message.Ends.{Ends}
-use Rattle.law_order.specs.pg_msg.declared.message.Message.{Message}
-use Rattle.law_order.specs.pg_msg.declared.message.Message.TheVariants as message
-use Rattle.law_order.specs.pg_msg.declared.message.Piece.{Piece}
-use Rattle.law_order.specs.pg_msg.declared.message.Sent.{Sent}
-use Rattle.law_order.specs.pg_names.Names.{cell_at as entry_at, own_or_blank}
-use Rattle.law_order.specs.pg_register.declared.flag.Flag.{Flag}
-use Rattle.law_order.specs.pg_register.Flag.{flag_of}
-use Rattle.law_order.specs.pg_replica.Replica.{cell_at as head_at}
-use Rattle.law_order.proofs.pg_replica.Growth.{cell_head}
-use Rattle.law_order.specs.theory_bodies.Book.{IsHeadOf, IsVersionOf}
-use Rattle.law_order.specs.theory_bodies.Telling.{IsSlice}
-use Rattle.law_order.specs.pg_run.Journal.{Born, made_for, made_of}
-use Rattle.law_order.specs.pg_store.declared.store.Store.{Store}
-use Rattle.law_order.specs.pg_store.Cells.{cell_at, entry_cell, flag_cell, is_sure, version_cell}
-use Rattle.law_order.specs.pg_store.Store.{content_of}
-use Rattle.law_order.specs.pg_cells.Sending.{Wanted, cells_where}
-use Rattle.law_order.proofs.theory_flood_pieces.Choices.{chosen}
+use Rattle.pg_run.specs.pg_base.declared.head.Head.{Head}
+use Rattle.pg_run.specs.pg_base.declared.id.FileId.{FileId}
+use Rattle.pg_run.specs.pg_base.declared.policy.Policy.{Policy}
+use Rattle.pg_run.specs.pg_base.Id.{is_same_file}
+use Rattle.pg_run.specs.pg_base.Version.{VersionValue}
+use Rattle.pg_run.specs.pg_content.Content.{Among, ContentValue}
+use Rattle.pg_run.specs.pg_content.History.{IsHistory, Made, body_of}
+use Rattle.pg_run.proofs.pg_content.StandsWritten.{earlier_version}
+use Rattle.pg_run.specs.pg_delta.declared.delta.KeptDelta.{KeptDelta}
+use Rattle.pg_run.specs.pg_delta.Leading.{IsTrueDelta}
+use Rattle.pg_run.specs.pg_delta.Taking.{delta_to}
+use Rattle.pg_run.proofs.pg_delta.Leads.{true_later}
+use Rattle.pg_run.specs.pg_edges.declared.key.Key.{Key}
+use Rattle.pg_run.specs.pg_edges.declared.key.Key.TheVariants as key
+use Rattle.pg_run.specs.pg_entries.declared.cell.Cell.{Cell}
+use Rattle.pg_run.specs.pg_entries.declared.cell.Cell.TheVariants as cell
+use Rattle.pg_run.specs.pg_entries.declared.entry.Entry.{Entry}
+use Rattle.pg_run.specs.pg_msg.declared.message.Ends.{Ends}
+use Rattle.pg_run.specs.pg_msg.declared.message.Message.{Message}
+use Rattle.pg_run.specs.pg_msg.declared.message.Message.TheVariants as message
+use Rattle.pg_run.specs.pg_msg.declared.message.Piece.{Piece}
+use Rattle.pg_run.specs.pg_msg.declared.message.Sent.{Sent}
+use Rattle.pg_run.specs.pg_names.Names.{cell_at as entry_at, own_or_blank}
+use Rattle.pg_run.specs.pg_register.declared.flag.Flag.{Flag}
+use Rattle.pg_run.specs.pg_register.Flag.{flag_of}
+use Rattle.pg_run.specs.pg_replica.Replica.{cell_at as head_at}
+use Rattle.pg_run.proofs.pg_replica.Growth.{cell_head}
+use Rattle.pg_run.specs.theory_bodies.Book.{IsHeadOf, IsVersionOf}
+use Rattle.pg_run.specs.theory_bodies.Telling.{IsSlice}
+use Rattle.pg_run.specs.Journal.{Born, made_for, made_of}
+use Rattle.pg_run.specs.pg_store.declared.store.Store.{Store}
+use Rattle.pg_run.specs.pg_store.Cells.{cell_at, entry_cell, flag_cell, is_sure, version_cell}
+use Rattle.pg_run.specs.pg_store.Store.{content_of}
+use Rattle.pg_run.specs.pg_cells.Sending.{Wanted, cells_where}
+use Rattle.pg_run.proofs.theory_flood_pieces.Choices.{chosen}
 use Rattle.law_contents.proofs.Carrying.{Carries, CarriesBytes, CarriesCell, CarriesHead, OfAny}
 use Rattle.law_contents.proofs.Cells.{IsCellSent, cells_all}
 use Rattle.law_contents.proofs.Changes.{Core, content_in, content_is, core_at}

@@ -2,32 +2,32 @@
 use Rattle.std.proofs.Common.{[], ℕ, ◌≡◌, ◌≢◌, ◌<◌, ◌≤◌, ◌^◌, Bool, true, false, cond, List, ◌∷◌, ◌++◌, Option, None, Some, length, take, refl, sym, ap, subst, ◌∙◌, inl, inr, ◌⊎◌, arith}
 use Rattle.std.proofs.lemmas.Option.{same_Some}
 use mathlib.Core.Path.{fun_ext}
-use Rattle.law_order.specs.pg_announced.declared.announced.Announced.{Announced}
-use Rattle.law_order.specs.pg_announced.Announced.{AreSorted, NotesValue, key_at, note_at}
-use Rattle.law_order.proofs.pg_announced.Sorted.{sorted_none}
-use Rattle.law_order.specs.pg_base.declared.id.FileId.{FileId}
-use Rattle.law_order.specs.pg_base.declared.policy.Policy.{Policy}
-use Rattle.law_order.specs.pg_base.declared.policy.Policy.TheVariants.{Last}
-use Rattle.law_order.specs.pg_base.declared.stamp.Stamp.{Stamp}
-use Rattle.law_order.specs.pg_base.declared.vector.Actor.{Actor}
-use Rattle.law_order.specs.pg_base.Id.{is_same_file}
-use Rattle.law_order.specs.pg_content.Content.{Among, body_limit}
-use Rattle.law_order.specs.pg_content.History.{IsHistory, Made, body_of, maker}
-use Rattle.law_order.specs.pg_delta.declared.delta.KeptDelta.{KeptDelta}
-use Rattle.law_order.specs.pg_delta.Leading.{AreTrueDeltas}
-use Rattle.law_order.proofs.pg_delta.Leads.{true_later}
-use Rattle.law_order.proofs.theory_bodies.Computing.{HaveRanges}
-use Rattle.law_order.specs.theory_bodies.Protocol.{IsNoteOf, Note}
-use Rattle.law_order.specs.pg_run.Journal.{Born, made_for, made_of}
-use Rattle.law_order.specs.pg_run.Took.{Take, stamps_taken}
-use Rattle.law_order.specs.pg_store.declared.store.Store.{Store}
-use Rattle.law_order.specs.pg_store.Births.{is_pending}
-use Rattle.law_order.specs.pg_store.Seen.{server_of}
-use Rattle.law_order.specs.pg_store.Store.{is_full, is_held}
-use Rattle.law_order.specs.pg_store.Together.{BirthsMove}
-use Rattle.law_order.specs.pg_names.Names.{is_dir}
-use Rattle.law_order.specs.pg_calls.Forgetting.{is_wanted}
-use Rattle.law_order.proofs.pg_calls.Walked.{full_held}
+use Rattle.pg_run.specs.pg_announced.declared.announced.Announced.{Announced}
+use Rattle.pg_run.specs.pg_announced.Announced.{AreSorted, NotesValue, key_at, note_at}
+use Rattle.pg_run.proofs.pg_announced.Sorted.{sorted_none}
+use Rattle.pg_run.specs.pg_base.declared.id.FileId.{FileId}
+use Rattle.pg_run.specs.pg_base.declared.policy.Policy.{Policy}
+use Rattle.pg_run.specs.pg_base.declared.policy.Policy.TheVariants.{Last}
+use Rattle.pg_run.specs.pg_base.declared.stamp.Stamp.{Stamp}
+use Rattle.pg_run.specs.pg_base.declared.vector.Actor.{Actor}
+use Rattle.pg_run.specs.pg_base.Id.{is_same_file}
+use Rattle.pg_run.specs.pg_content.Content.{Among, body_limit}
+use Rattle.pg_run.specs.pg_content.History.{IsHistory, Made, body_of, maker}
+use Rattle.pg_run.specs.pg_delta.declared.delta.KeptDelta.{KeptDelta}
+use Rattle.pg_run.specs.pg_delta.Leading.{AreTrueDeltas}
+use Rattle.pg_run.proofs.pg_delta.Leads.{true_later}
+use Rattle.pg_run.proofs.theory_bodies.Computing.{HaveRanges}
+use Rattle.pg_run.specs.theory_bodies.Protocol.{IsNoteOf, Note}
+use Rattle.pg_run.specs.Journal.{Born, made_for, made_of}
+use Rattle.pg_run.specs.Took.{Take, stamps_taken}
+use Rattle.pg_run.specs.pg_store.declared.store.Store.{Store}
+use Rattle.pg_run.specs.pg_store.Births.{is_pending}
+use Rattle.pg_run.specs.pg_store.Seen.{server_of}
+use Rattle.pg_run.specs.pg_store.Store.{is_full, is_held}
+use Rattle.pg_run.specs.pg_store.Together.{BirthsMove}
+use Rattle.pg_run.specs.pg_names.Names.{is_dir}
+use Rattle.pg_run.specs.pg_calls.Forgetting.{is_wanted}
+use Rattle.pg_run.proofs.pg_calls.Walked.{full_held}
 use Rattle.law_contents.proofs.Changes.{Alters, Core, Keeps, NotesStay, by_altered, content_in, core_at, new_core, noted_at, same_notes}
 use Rattle.law_contents.proofs.Files.{HoldsFile, Stood, none_stood, stood_begun, stood_later}
 use Rattle.law_contents.proofs.Histories.{AreMade, by_file, later_body, later_head}

@@ -2,16 +2,16 @@
 use Rattle.std.proofs.Common.{ℕ, ◌≡◌, ◌≤◌, Bool, true, ◌||◌, List, ◌∷◌, refl, sym, subst, inl, inr, ◌⊎◌, ◌↔◌, arith}
 use Rattle.std.proofs.lemmas.Bool.{or_cases, or_left, or_right}
 use Rattle.std.specs.List.{filter}
-use Rattle.law_order.specs.pg_base.declared.stamp.Stamp.{Stamp}
-use Rattle.law_order.proofs.pg_content.Members.{among_map, map_among, any_found, any_by, among_filter, filter_among}
-use Rattle.law_order.proofs.pg_content.Stamps.{same_stamp, same_true}
-use Rattle.law_order.proofs.pg_content.Numbers.{member_of, made_of as member_made, ancestor_member}
-use Rattle.law_order.proofs.pg_content.Ancestry.{ancestor_trans}
-use Rattle.law_order.proofs.pg_content.HeadsOf.{is_ancestor-true, is_ancestor-by}
-use Rattle.law_order.specs.pg_content.Content.{Among}
-use Rattle.law_order.specs.pg_content.History.{IsAncestor, IsHistory, IsMember, Made, is_ancestor, is_same_stamp}
-use Rattle.law_order.specs.pg_content.StandsFor.{IsClosed, IsWith}
-use Rattle.law_order.specs.pg_run.Journal.{is_within, with_ancestors}
+use Rattle.pg_run.specs.pg_base.declared.stamp.Stamp.{Stamp}
+use Rattle.pg_run.proofs.pg_content.Members.{among_map, map_among, any_found, any_by, among_filter, filter_among}
+use Rattle.pg_run.proofs.pg_content.Stamps.{same_stamp, same_true}
+use Rattle.pg_run.proofs.pg_content.Numbers.{member_of, made_of as member_made, ancestor_member}
+use Rattle.pg_run.proofs.pg_content.Ancestry.{ancestor_trans}
+use Rattle.pg_run.proofs.pg_content.HeadsOf.{is_ancestor-true, is_ancestor-by}
+use Rattle.pg_run.specs.pg_content.Content.{Among}
+use Rattle.pg_run.specs.pg_content.History.{IsAncestor, IsHistory, IsMember, Made, is_ancestor, is_same_stamp}
+use Rattle.pg_run.specs.pg_content.StandsFor.{IsClosed, IsWith}
+use Rattle.pg_run.specs.Journal.{is_within, with_ancestors}
 
 -- ---- versions with their ancestors
 

@@ -2,15 +2,15 @@
 use Rattle.std.proofs.Common.{ℕ, ◌≡◌, Bool, true, false, [], Option, None, Some, refl, sym, ap, subst, ◌∙◌, inl, inr, ◌⊎◌, arith}
 use Rattle.std.proofs.lemmas.Option.{same_Some}
 use Rattle.std.specs.List.Sorted.{IsStrictlySortedBy}
-use Rattle.law_order.specs.pg_base.declared.id.FileId.{FileId}
-use Rattle.law_order.specs.pg_base.Id.{is_same_file}
-use Rattle.law_order.proofs.pg_base.Orders.{is_same_file-true}
-use Rattle.law_order.specs.pg_register.Place.{root}
-use Rattle.law_order.specs.pg_replica.Root.{first_root}
-use Rattle.law_order.specs.pg_run.Asking.{nobody_asked}
-use Rattle.law_order.specs.pg_run.Took.{first_takes}
-use Rattle.law_order.specs.pg_store.Start.{first_flags}
-use Rattle.law_order.specs.pg_store.Store.{new_store}
+use Rattle.pg_run.specs.pg_base.declared.id.FileId.{FileId}
+use Rattle.pg_run.specs.pg_base.Id.{is_same_file}
+use Rattle.pg_run.proofs.pg_base.Orders.{is_same_file-true}
+use Rattle.pg_run.specs.pg_register.Place.{root}
+use Rattle.pg_run.specs.pg_replica.Root.{first_root}
+use Rattle.pg_run.specs.Asking.{nobody_asked}
+use Rattle.pg_run.specs.Took.{first_takes}
+use Rattle.pg_run.specs.pg_store.Start.{first_flags}
+use Rattle.pg_run.specs.pg_store.Store.{new_store}
 use Rattle.law_contents.proofs.Agreed.{agrees_start}
 use Rattle.law_contents.proofs.Carrying.{policies}
 use Rattle.law_contents.proofs.Changes.{Core, IsOrdered, content_in, core_at, core_of}

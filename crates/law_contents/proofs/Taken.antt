@@ -2,42 +2,42 @@
 -- that is kept beside it.
 use Rattle.std.proofs.Common.{[], ℕ, ◌≡◌, ◌≤◌, ◌==◌, true, false, cond, List, ◌∷◌, ◌++◌, map, Option, None, Some, option_map, inl, refl, sym, ap, subst, ◌∙◌, arith}
 use Rattle.std.proofs.lemmas.List.{append-nil}
-use Rattle.law_order.specs.pg_base.declared.head.Head.{Head}
-use Rattle.law_order.specs.pg_base.declared.id.FileId.{FileId}
-use Rattle.law_order.specs.pg_base.declared.policy.Policy.{Policy}
-use Rattle.law_order.specs.pg_base.declared.stamp.Stamp.{Stamp}
-use Rattle.law_order.specs.pg_base.Id.{is_same_file}
-use Rattle.law_order.specs.pg_base.Version.{VersionValue}
-use Rattle.law_order.specs.pg_content.Content.{Among, joined_content}
-use Rattle.law_order.specs.pg_content.History.{IsMember}
-use Rattle.law_order.proofs.pg_content.Numbers.{member_of}
-use Rattle.law_order.specs.pg_delta.declared.delta.KeptDelta.{KeptDelta}
-use Rattle.law_order.specs.pg_delta.Kept.{with_delta}
-use Rattle.law_order.specs.pg_delta.Leading.{AreTrueDeltas, IsTrueDelta}
-use Rattle.law_order.specs.pg_edges.declared.key.Key.TheVariants as key
-use Rattle.law_order.specs.pg_msg.declared.message.Ends.{Ends}
-use Rattle.law_order.specs.pg_msg.declared.message.Message.{Message}
-use Rattle.law_order.specs.pg_msg.declared.message.Message.TheVariants as message
-use Rattle.law_order.specs.pg_msg.declared.update.Update.{Update}
-use Rattle.law_order.specs.pg_msg.declared.work.Work.{Work}
-use Rattle.law_order.specs.pg_msg.Ends.{back}
-use Rattle.law_order.specs.pg_replica.declared.replica.Replica.{Replica}
-use Rattle.law_order.specs.pg_replica.Replica.{with_kept}
-use Rattle.law_order.specs.pg_replica.Replicas.{is_of_birth, replicas_keeping}
-use Rattle.law_order.specs.pg_run.Journal.{Born, made_for, versions_in, with_ancestors}
-use Rattle.law_order.specs.pg_run.Took.{Take, stamps_taken, take_of}
-use Rattle.law_order.specs.pg_run.Took.Take.{TookVersion}
-use Rattle.law_order.specs.pg_store.declared.store.Store.{Store}
-use Rattle.law_order.specs.pg_store.Seen.{server_of}
-use Rattle.law_order.specs.pg_store.Store.{is_new_version, keep_delta, replica_at, take_version}
-use Rattle.law_order.specs.pg_pieces.Posting.{reply}
-use Rattle.law_order.specs.pg_pieces.Taking.{with_news}
-use Rattle.law_order.proofs.pg_pieces.News.{news_made, news_sent}
-use Rattle.law_order.specs.pg_server.pg_transfer.Taking.{taken_for}
-use Rattle.law_order.specs.theory_bodies.Book.{IsHeadOf, IsVersionOf}
-use Rattle.law_order.proofs.theory_bodies.Computing.{HaveRanges}
-use Rattle.law_order.proofs.theory_bodies.Holdings.{deltas_with}
-use Rattle.law_order.proofs.theory_flood_pieces.Choices.{chosen}
+use Rattle.pg_run.specs.pg_base.declared.head.Head.{Head}
+use Rattle.pg_run.specs.pg_base.declared.id.FileId.{FileId}
+use Rattle.pg_run.specs.pg_base.declared.policy.Policy.{Policy}
+use Rattle.pg_run.specs.pg_base.declared.stamp.Stamp.{Stamp}
+use Rattle.pg_run.specs.pg_base.Id.{is_same_file}
+use Rattle.pg_run.specs.pg_base.Version.{VersionValue}
+use Rattle.pg_run.specs.pg_content.Content.{Among, joined_content}
+use Rattle.pg_run.specs.pg_content.History.{IsMember}
+use Rattle.pg_run.proofs.pg_content.Numbers.{member_of}
+use Rattle.pg_run.specs.pg_delta.declared.delta.KeptDelta.{KeptDelta}
+use Rattle.pg_run.specs.pg_delta.Kept.{with_delta}
+use Rattle.pg_run.specs.pg_delta.Leading.{AreTrueDeltas, IsTrueDelta}
+use Rattle.pg_run.specs.pg_edges.declared.key.Key.TheVariants as key
+use Rattle.pg_run.specs.pg_msg.declared.message.Ends.{Ends}
+use Rattle.pg_run.specs.pg_msg.declared.message.Message.{Message}
+use Rattle.pg_run.specs.pg_msg.declared.message.Message.TheVariants as message
+use Rattle.pg_run.specs.pg_msg.declared.update.Update.{Update}
+use Rattle.pg_run.specs.pg_msg.declared.work.Work.{Work}
+use Rattle.pg_run.specs.pg_msg.Ends.{back}
+use Rattle.pg_run.specs.pg_replica.declared.replica.Replica.{Replica}
+use Rattle.pg_run.specs.pg_replica.Replica.{with_kept}
+use Rattle.pg_run.specs.pg_replica.Replicas.{is_of_birth, replicas_keeping}
+use Rattle.pg_run.specs.Journal.{Born, made_for, versions_in, with_ancestors}
+use Rattle.pg_run.specs.Took.{Take, stamps_taken, take_of}
+use Rattle.pg_run.specs.Took.Take.{TookVersion}
+use Rattle.pg_run.specs.pg_store.declared.store.Store.{Store}
+use Rattle.pg_run.specs.pg_store.Seen.{server_of}
+use Rattle.pg_run.specs.pg_store.Store.{is_new_version, keep_delta, replica_at, take_version}
+use Rattle.pg_run.specs.pg_pieces.Posting.{reply}
+use Rattle.pg_run.specs.pg_pieces.Taking.{with_news}
+use Rattle.pg_run.proofs.pg_pieces.News.{news_made, news_sent}
+use Rattle.pg_run.specs.pg_server.pg_transfer.Taking.{taken_for}
+use Rattle.pg_run.specs.theory_bodies.Book.{IsHeadOf, IsVersionOf}
+use Rattle.pg_run.proofs.theory_bodies.Computing.{HaveRanges}
+use Rattle.pg_run.proofs.theory_bodies.Holdings.{deltas_with}
+use Rattle.pg_run.proofs.theory_flood_pieces.Choices.{chosen}
 use Rattle.law_contents.proofs.Arrivals.{Arrives, more_came}
 use Rattle.law_contents.proofs.Asking.{post_carry}
 use Rattle.law_contents.proofs.Changes.{Alters, Core, Covers, IsOrdered, by_altered, core_at, core_of}

@@ -4,24 +4,24 @@ use Rattle.std.proofs.Common.{ℕ, ◌≡◌, List, [], ◌∷◌, ◌++◌, map
 use Rattle.std.specs.List.{flat_map}
 use Rattle.std.proofs.lemmas.Grind.{flat_map-append}
 use Rattle.std.proofs.lemmas.List.{append-nil}
-use Rattle.law_order.specs.pg_base.declared.id.FileId.{FileId}
-use Rattle.law_order.specs.pg_base.declared.stamp.Stamp.{Stamp}
-use Rattle.law_order.specs.pg_call.declared.reply.Reply.{Reply}
-use Rattle.law_order.specs.pg_call.declared.reply.Reply.TheVariants as reply
-use Rattle.law_order.specs.pg_register.declared.flag.Flag.{Flag}
-use Rattle.law_order.specs.pg_register.declared.place.Place.{Place}
-use Rattle.law_order.specs.pg_register.Place.{root}
-use Rattle.law_order.specs.pg_house.Returning.{is_root}
-use Rattle.law_order.specs.pg_msg.declared.update.MadeVersion.{MadeVersion}
-use Rattle.law_order.specs.pg_msg.declared.update.Update.{Update}
-use Rattle.law_order.specs.pg_msg.declared.update.Update.TheVariants as update
-use Rattle.law_order.specs.pg_run.Carried.{begun_by}
-use Rattle.law_order.specs.pg_run.Journal.{versions_in}
-use Rattle.law_order.specs.pg_run.Took.{Take, Taker, first_takes, held, stamp_taken_by, stamps_taken, take_of}
-use Rattle.law_order.specs.pg_run.Took.Take.{TookFlag, TookPlace}
-use Rattle.law_order.specs.pg_run.Took.Taker.{InDir, Itself}
-use Rattle.law_order.specs.pg_run.Passed.{all_to, all_to_dir, flags_known, flags_to, is_back, own_takes, parties, passed, passed_with, passes, places_known, places_to}
-use Rattle.law_order.proofs.theory_flood_pieces.Choices.{chosen}
+use Rattle.pg_run.specs.pg_base.declared.id.FileId.{FileId}
+use Rattle.pg_run.specs.pg_base.declared.stamp.Stamp.{Stamp}
+use Rattle.pg_run.specs.pg_call.declared.reply.Reply.{Reply}
+use Rattle.pg_run.specs.pg_call.declared.reply.Reply.TheVariants as reply
+use Rattle.pg_run.specs.pg_register.declared.flag.Flag.{Flag}
+use Rattle.pg_run.specs.pg_register.declared.place.Place.{Place}
+use Rattle.pg_run.specs.pg_register.Place.{root}
+use Rattle.pg_run.specs.pg_house.Returning.{is_root}
+use Rattle.pg_run.specs.pg_msg.declared.update.MadeVersion.{MadeVersion}
+use Rattle.pg_run.specs.pg_msg.declared.update.Update.{Update}
+use Rattle.pg_run.specs.pg_msg.declared.update.Update.TheVariants as update
+use Rattle.pg_run.specs.Carried.{begun_by}
+use Rattle.pg_run.specs.Journal.{versions_in}
+use Rattle.pg_run.specs.Took.{Take, Taker, first_takes, held, stamp_taken_by, stamps_taken, take_of}
+use Rattle.pg_run.specs.Took.Take.{TookFlag, TookPlace}
+use Rattle.pg_run.specs.Took.Taker.{InDir, Itself}
+use Rattle.pg_run.specs.Passed.{all_to, all_to_dir, flags_known, flags_to, is_back, own_takes, parties, passed, passed_with, passes, places_known, places_to}
+use Rattle.pg_run.proofs.theory_flood_pieces.Choices.{chosen}
 use Rattle.law_contents.proofs.Rules.{AreNames}
 
 module _ (q : FileId) where

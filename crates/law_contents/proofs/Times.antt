@@ -1,13 +1,13 @@
 -- The clock has come to the times of all versions that were taken.
 use Rattle.std.proofs.Common.{ℕ, ◌≤◌, List, sym, subst, arith}
-use Rattle.law_order.specs.pg_base.declared.id.FileId.{FileId}
-use Rattle.law_order.specs.pg_base.declared.stamp.Stamp.{Stamp}
-use Rattle.law_order.specs.pg_base.declared.vector.Actor.{Actor}
-use Rattle.law_order.specs.pg_base.Vector.{number_at}
-use Rattle.law_order.specs.pg_base.Version.{VersionValue}
-use Rattle.law_order.specs.pg_content.Content.{Among, ContentValue}
-use Rattle.law_order.specs.pg_content.History.{Made}
-use Rattle.law_order.specs.pg_run.Journal.{Born, made_for, with_ancestors}
+use Rattle.pg_run.specs.pg_base.declared.id.FileId.{FileId}
+use Rattle.pg_run.specs.pg_base.declared.stamp.Stamp.{Stamp}
+use Rattle.pg_run.specs.pg_base.declared.vector.Actor.{Actor}
+use Rattle.pg_run.specs.pg_base.Vector.{number_at}
+use Rattle.pg_run.specs.pg_base.Version.{VersionValue}
+use Rattle.pg_run.specs.pg_content.Content.{Among, ContentValue}
+use Rattle.pg_run.specs.pg_content.History.{Made}
+use Rattle.pg_run.specs.Journal.{Born, made_for, with_ancestors}
 use Rattle.law_contents.proofs.Files.{Stood}
 use Rattle.law_contents.proofs.Histories.{AreMade}
 use Rattle.law_contents.proofs.Sets.{taken_in_time}

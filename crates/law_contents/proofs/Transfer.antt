@@ -3,40 +3,40 @@
 use Rattle.std.proofs.Common.{ℕ, ◌≡◌, ◌==◌, true, List, [], ◌∷◌, ◌++◌, map, Option, None, Some, option_map, inl, inr, refl, sym, ap, subst, ◌∙◌}
 use Rattle.std.specs.List.{flat_map}
 use Rattle.std.proofs.lemmas.List.Elements.{All-append, All-cons}
-use Rattle.law_order.specs.pg_announced.declared.announced.Announced.{Announced}
-use Rattle.law_order.specs.pg_announced.Announced.{AreSorted, NotesValue, aimed, is_awaited, key_at, lose_note, new_note, note_at}
-use Rattle.law_order.proofs.pg_announced.Sorted.{sorted_change, sorted_lose, sorted_put}
-use Rattle.law_order.specs.pg_base.declared.head.Head.{Head}
-use Rattle.law_order.specs.pg_base.declared.id.FileId.{FileId}
-use Rattle.law_order.specs.pg_base.declared.policy.Policy.{Policy}
-use Rattle.law_order.specs.pg_base.declared.stamp.Stamp.{Stamp}
-use Rattle.law_order.specs.pg_base.Version.{actor_of}
-use Rattle.law_order.specs.pg_content.Content.{is_covered}
-use Rattle.law_order.specs.pg_edges.declared.edge.Edge.{Edge}
-use Rattle.law_order.specs.pg_edges.declared.key.Key.TheVariants as key
-use Rattle.law_order.specs.pg_msg.declared.message.Ends.{Ends}
-use Rattle.law_order.specs.pg_msg.declared.message.Message.TheVariants as message
-use Rattle.law_order.specs.pg_msg.declared.work.Work.{Work}
-use Rattle.law_order.specs.pg_msg.Ends.{back}
-use Rattle.law_order.specs.pg_msg.Work.{new_work}
-use Rattle.law_order.specs.pg_names.Names.{is_dir}
-use Rattle.law_order.specs.pg_pieces.declared.accepting.EdgeUse.TheVariants as manner
-use Rattle.law_order.specs.pg_pieces.Accepting.{accept, ends_to, is_accepted}
-use Rattle.law_order.specs.pg_pieces.Done.{Done, idle}
-use Rattle.law_order.specs.pg_pieces.Posting.{sent_to}
-use Rattle.law_order.specs.pg_run.Journal.{Born, made_for}
-use Rattle.law_order.specs.pg_run.Took.{take_of}
-use Rattle.law_order.specs.pg_server.pg_transfer.Asking.{acknowledged, ask, heard_by, listed, noted, offset_of, put_off, told_others}
-use Rattle.law_order.specs.pg_server.pg_transfer.Harbinger.{harbinger, heard, heard_beside}
-use Rattle.law_order.specs.pg_server.pg_transfer.Later.{later, later_along}
-use Rattle.law_order.specs.pg_store.declared.store.Store.{Store}
-use Rattle.law_order.specs.pg_store.Store.{content_of, replica_of}
-use Rattle.law_order.specs.theory_bodies.Book.{Book, IsBook}
-use Rattle.law_order.specs.theory_bodies.Protocol.{IsAsked, IsNoteIn, Note}
-use Rattle.law_order.specs.theory_bodies.Telling.{IsTrue, Telling}
-use Rattle.law_order.specs.theory_bodies.Telling.Telling.{Announces, Silent}
-use Rattle.law_order.proofs.theory_bodies.Notes.{note_holds}
-use Rattle.law_order.proofs.theory_flood_pieces.Choices.{chosen}
+use Rattle.pg_run.specs.pg_announced.declared.announced.Announced.{Announced}
+use Rattle.pg_run.specs.pg_announced.Announced.{AreSorted, NotesValue, aimed, is_awaited, key_at, lose_note, new_note, note_at}
+use Rattle.pg_run.proofs.pg_announced.Sorted.{sorted_change, sorted_lose, sorted_put}
+use Rattle.pg_run.specs.pg_base.declared.head.Head.{Head}
+use Rattle.pg_run.specs.pg_base.declared.id.FileId.{FileId}
+use Rattle.pg_run.specs.pg_base.declared.policy.Policy.{Policy}
+use Rattle.pg_run.specs.pg_base.declared.stamp.Stamp.{Stamp}
+use Rattle.pg_run.specs.pg_base.Version.{actor_of}
+use Rattle.pg_run.specs.pg_content.Content.{is_covered}
+use Rattle.pg_run.specs.pg_edges.declared.edge.Edge.{Edge}
+use Rattle.pg_run.specs.pg_edges.declared.key.Key.TheVariants as key
+use Rattle.pg_run.specs.pg_msg.declared.message.Ends.{Ends}
+use Rattle.pg_run.specs.pg_msg.declared.message.Message.TheVariants as message
+use Rattle.pg_run.specs.pg_msg.declared.work.Work.{Work}
+use Rattle.pg_run.specs.pg_msg.Ends.{back}
+use Rattle.pg_run.specs.pg_msg.Work.{new_work}
+use Rattle.pg_run.specs.pg_names.Names.{is_dir}
+use Rattle.pg_run.specs.pg_pieces.declared.accepting.EdgeUse.TheVariants as manner
+use Rattle.pg_run.specs.pg_pieces.Accepting.{accept, ends_to, is_accepted}
+use Rattle.pg_run.specs.pg_pieces.Done.{Done, idle}
+use Rattle.pg_run.specs.pg_pieces.Posting.{sent_to}
+use Rattle.pg_run.specs.Journal.{Born, made_for}
+use Rattle.pg_run.specs.Took.{take_of}
+use Rattle.pg_run.specs.pg_server.pg_transfer.Asking.{acknowledged, ask, heard_by, listed, noted, offset_of, put_off, told_others}
+use Rattle.pg_run.specs.pg_server.pg_transfer.Harbinger.{harbinger, heard, heard_beside}
+use Rattle.pg_run.specs.pg_server.pg_transfer.Later.{later, later_along}
+use Rattle.pg_run.specs.pg_store.declared.store.Store.{Store}
+use Rattle.pg_run.specs.pg_store.Store.{content_of, replica_of}
+use Rattle.pg_run.specs.theory_bodies.Book.{Book, IsBook}
+use Rattle.pg_run.specs.theory_bodies.Protocol.{IsAsked, IsNoteIn, Note}
+use Rattle.pg_run.specs.theory_bodies.Telling.{IsTrue, Telling}
+use Rattle.pg_run.specs.theory_bodies.Telling.Telling.{Announces, Silent}
+use Rattle.pg_run.proofs.theory_bodies.Notes.{note_holds}
+use Rattle.pg_run.proofs.theory_flood_pieces.Choices.{chosen}
 use Rattle.law_contents.proofs.Arrivals.{Arrives, more_came, quiet_arrives}
 use Rattle.law_contents.proofs.Carrying.{CarriesHead}
 use Rattle.law_contents.proofs.Handlers.{accept_quiet}

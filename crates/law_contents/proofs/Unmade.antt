@@ -1,13 +1,13 @@
 -- Of which births no version was made.
 use Rattle.std.proofs.Common.{ℕ, ◌≡◌, ◌+◌, true, false, List, sym, ap, subst, ◌∙◌, arith}
-use Rattle.law_order.specs.pg_base.declared.id.FileId.{FileId}
-use Rattle.law_order.specs.pg_base.declared.policy.Policy.{Policy}
-use Rattle.law_order.specs.pg_base.declared.vector.Actor.{Actor}
-use Rattle.law_order.specs.pg_content.Content.{Among}
-use Rattle.law_order.specs.pg_content.History.{Made, maker}
-use Rattle.law_order.specs.pg_run.Journal.{Born, made_for, made_of}
-use Rattle.law_order.specs.pg_store.declared.store.Store.{Store}
-use Rattle.law_order.specs.pg_store.Births.{is_pending}
+use Rattle.pg_run.specs.pg_base.declared.id.FileId.{FileId}
+use Rattle.pg_run.specs.pg_base.declared.policy.Policy.{Policy}
+use Rattle.pg_run.specs.pg_base.declared.vector.Actor.{Actor}
+use Rattle.pg_run.specs.pg_content.Content.{Among}
+use Rattle.pg_run.specs.pg_content.History.{Made, maker}
+use Rattle.pg_run.specs.Journal.{Born, made_for, made_of}
+use Rattle.pg_run.specs.pg_store.declared.store.Store.{Store}
+use Rattle.pg_run.specs.pg_store.Births.{is_pending}
 use Rattle.law_contents.proofs.Histories.{update_of}
 use Rattle.law_contents.proofs.Servers.{Came, IsServer}
 

@@ -5,16 +5,16 @@ use Rattle.std.specs.List.Sorted.{IsStrictlySortedBy}
 use Rattle.std.specs.Map.{keys_of}
 use Rattle.std.proofs.lemmas.Bool.Decides.{nat_tests}
 use Rattle.std.proofs.lemmas.List.Folds.{list_any_none}
-use Rattle.law_order.specs.pg_base.declared.stamp.Stamp.{Stamp}
-use Rattle.law_order.specs.pg_base.declared.vector.Actor.{Actor}
-use Rattle.law_order.specs.pg_base.Stamp.{clock_end}
-use Rattle.law_order.specs.pg_base.Vector.{actor_cmp, joined, number_at, raised}
-use Rattle.law_order.proofs.pg_base.Entries.{IsStrictlySortedBy-insert_entry, lookup-place}
-use Rattle.law_order.proofs.pg_base.Vectors.{actor_total}
-use Rattle.law_order.specs.pg_content.Content.{joined_all, one_more}
-use Rattle.law_order.specs.pg_content.History.{Made, is_same_stamp, maker, vector_of}
-use Rattle.law_order.specs.pg_replica.Replica.{has_own_end}
-use Rattle.law_order.proofs.theory_flood_pieces.Choices.{chosen}
+use Rattle.pg_run.specs.pg_base.declared.stamp.Stamp.{Stamp}
+use Rattle.pg_run.specs.pg_base.declared.vector.Actor.{Actor}
+use Rattle.pg_run.specs.pg_base.Stamp.{clock_end}
+use Rattle.pg_run.specs.pg_base.Vector.{actor_cmp, joined, number_at, raised}
+use Rattle.pg_run.proofs.pg_base.Entries.{IsStrictlySortedBy-insert_entry, lookup-place}
+use Rattle.pg_run.proofs.pg_base.Vectors.{actor_total}
+use Rattle.pg_run.specs.pg_content.Content.{joined_all, one_more}
+use Rattle.pg_run.specs.pg_content.History.{Made, is_same_stamp, maker, vector_of}
+use Rattle.pg_run.specs.pg_replica.Replica.{has_own_end}
+use Rattle.pg_run.proofs.theory_flood_pieces.Choices.{chosen}
 
 abbrev pub IsSorted : List (Actor × ℕ) → Type 0
 IsSorted es = IsStrictlySortedBy actor_cmp (keys_of es)

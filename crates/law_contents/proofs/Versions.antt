@@ -1,27 +1,27 @@
 -- A version comes to a file that is held, or is made there.
 use Rattle.std.proofs.Common.{◌≡◌, ◌≤◌, ◌⊎◌, Bool, true, false, cond, not, Option, None, Some, option_map, inl, inr, refl, sym, ap, subst, ◌∙◌, arith}
 use Rattle.std.proofs.lemmas.Bool.{and_from, and_parts, false≢true}
-use Rattle.law_order.specs.pg_announced.declared.announced.Announced.{Announced}
-use Rattle.law_order.specs.pg_announced.declared.announced.NoteKey.{NoteKey}
-use Rattle.law_order.specs.pg_announced.Announced.{AreSorted, NotesValue, is_over, key_at, note_at}
-use Rattle.law_order.proofs.pg_announced.Found.{kept_found}
-use Rattle.law_order.proofs.pg_announced.Sorted.{sorted_kept}
-use Rattle.law_order.specs.pg_base.declared.id.FileId.{FileId}
-use Rattle.law_order.specs.pg_base.declared.stamp.Stamp.{Stamp}
-use Rattle.law_order.specs.pg_base.Id.{is_same_file}
-use Rattle.law_order.specs.pg_base.Version.{VersionValue, actor_of}
-use Rattle.law_order.proofs.pg_base.Orders.{is_same_file-refl, is_same_file-true}
-use Rattle.law_order.specs.pg_patch.Ranges.{RangesValue}
-use Rattle.law_order.specs.pg_content.Content.{is_covered, joined_content, put_version as put_head, written}
-use Rattle.law_order.specs.pg_delta.Kept.{with_delta}
-use Rattle.law_order.specs.pg_delta.Taking.{delta_to, stamps_of}
-use Rattle.law_order.specs.pg_names.Names.{raise}
-use Rattle.law_order.specs.pg_replica.declared.replica.Replica.{Replica}
-use Rattle.law_order.specs.pg_replica.Replica.{covers, own_actor, with_head, with_write}
-use Rattle.law_order.specs.pg_replica.Replicas.{ByFile, edge_count, put_replica, replica_in, replicas_taking, replicas_writing, takes_version}
-use Rattle.law_order.specs.pg_store.declared.store.Store.{Store}
-use Rattle.law_order.specs.pg_store.Store.{end_covered, notes_behind, replica_at, take_version, with_drawn, with_names, write}
-use Rattle.law_order.proofs.theory_flood_pieces.Choices.{decided}
+use Rattle.pg_run.specs.pg_announced.declared.announced.Announced.{Announced}
+use Rattle.pg_run.specs.pg_announced.declared.announced.NoteKey.{NoteKey}
+use Rattle.pg_run.specs.pg_announced.Announced.{AreSorted, NotesValue, is_over, key_at, note_at}
+use Rattle.pg_run.proofs.pg_announced.Found.{kept_found}
+use Rattle.pg_run.proofs.pg_announced.Sorted.{sorted_kept}
+use Rattle.pg_run.specs.pg_base.declared.id.FileId.{FileId}
+use Rattle.pg_run.specs.pg_base.declared.stamp.Stamp.{Stamp}
+use Rattle.pg_run.specs.pg_base.Id.{is_same_file}
+use Rattle.pg_run.specs.pg_base.Version.{VersionValue, actor_of}
+use Rattle.pg_run.proofs.pg_base.Orders.{is_same_file-refl, is_same_file-true}
+use Rattle.pg_run.specs.pg_patch.Ranges.{RangesValue}
+use Rattle.pg_run.specs.pg_content.Content.{is_covered, joined_content, put_version as put_head, written}
+use Rattle.pg_run.specs.pg_delta.Kept.{with_delta}
+use Rattle.pg_run.specs.pg_delta.Taking.{delta_to, stamps_of}
+use Rattle.pg_run.specs.pg_names.Names.{raise}
+use Rattle.pg_run.specs.pg_replica.declared.replica.Replica.{Replica}
+use Rattle.pg_run.specs.pg_replica.Replica.{covers, own_actor, with_head, with_write}
+use Rattle.pg_run.specs.pg_replica.Replicas.{ByFile, edge_count, put_replica, replica_in, replicas_taking, replicas_writing, takes_version}
+use Rattle.pg_run.specs.pg_store.declared.store.Store.{Store}
+use Rattle.pg_run.specs.pg_store.Store.{end_covered, notes_behind, replica_at, take_version, with_drawn, with_names, write}
+use Rattle.pg_run.proofs.theory_flood_pieces.Choices.{decided}
 use Rattle.law_contents.proofs.Changes.{Alters, Core, Covers, IsOpen, core_of}
 use Rattle.law_contents.proofs.Cores.{put_elsewhere, put_here, put_order, raised_time, raised_up}
 use Rattle.law_contents.proofs.Endings.{found_stays, stays_or_ends}

@@ -2,20 +2,20 @@
 -- or a Patch names.
 use Rattle.std.proofs.Common.{ℕ, ◌≡◌, true, false, List, is_some, sym, ap, subst, ◌∙◌, inl, inr, arith}
 use Rattle.std.proofs.lemmas.Bool.{false≢true}
-use Rattle.law_order.specs.pg_base.declared.id.FileId.{FileId}
-use Rattle.law_order.specs.pg_event.declared.event.Event.{Event}
-use Rattle.law_order.specs.pg_intent.declared.key.IntentKey.TheVariants as intent_key
-use Rattle.law_order.proofs.pg_intent.Found.{stands_is}
-use Rattle.law_order.specs.pg_store.declared.store.Store.{Store}
-use Rattle.law_order.specs.pg_store.Store.{is_held}
-use Rattle.law_order.specs.pg_calls.Forgetting.{is_wanted}
+use Rattle.pg_run.specs.pg_base.declared.id.FileId.{FileId}
+use Rattle.pg_run.specs.pg_event.declared.event.Event.{Event}
+use Rattle.pg_run.specs.pg_intent.declared.key.IntentKey.TheVariants as intent_key
+use Rattle.pg_run.proofs.pg_intent.Found.{stands_is}
+use Rattle.pg_run.specs.pg_store.declared.store.Store.{Store}
+use Rattle.pg_run.specs.pg_store.Store.{is_held}
+use Rattle.pg_run.specs.pg_calls.Forgetting.{is_wanted}
 use Rattle.law_order.specs.Laws.{AllIsNamed, files_of}
 use Rattle.law_order.specs.Named.{IsMade, naming}
 use Rattle.law_order.specs.Saying.{AreIntended, IsSaidOf, Saying}
 use Rattle.law_order.proofs.Losing.{wanted_thing}
-use Rattle.law_order.specs.pg_run.Intending.{IntendsInOrder, IntentionsAreInOrder, IsToFill}
-use Rattle.law_order.specs.pg_run.Laws.{AtEach, store_after}
-use Rattle.law_order.specs.pg_run.Run.{run}
+use Rattle.pg_run.specs.Intending.{IntendsInOrder, IntentionsAreInOrder, IsToFill}
+use Rattle.pg_run.specs.Laws.{AtEach, store_after}
+use Rattle.pg_run.specs.Run.{run}
 use Rattle.law_contents.proofs.Worlds.{IsNamed}
 
 module _ (n : ℕ) (stores : ℕ → Store) (a : Store) (said : IsSaidOf (naming n (files_of stores)) a.names)

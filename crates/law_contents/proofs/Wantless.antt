@@ -5,44 +5,44 @@ use Rattle.std.specs.List.{flat_map}
 use Rattle.std.specs.Option.{option_or}
 use Rattle.std.proofs.lemmas.Bool.{false≢true}
 use Rattle.std.proofs.lemmas.List.Elements.{All-append, All-head, All-nil, All-tail}
-use Rattle.law_order.specs.pg_base.declared.id.FileId.{FileId}
-use Rattle.law_order.specs.pg_base.declared.stamp.Stamp.{Stamp}
-use Rattle.law_order.specs.pg_call.declared.call.Call.{Call}
-use Rattle.law_order.specs.pg_edges.declared.edge.Edge.{Edge}
-use Rattle.law_order.specs.pg_entries.declared.cell.Cell.{Cell}
-use Rattle.law_order.specs.pg_entries.declared.cell.Cell.TheVariants as cell
-use Rattle.law_order.specs.pg_entries.declared.entry.Entry.{Entry}
-use Rattle.law_order.specs.pg_intent.declared.intent.Intent.{Intent}
-use Rattle.law_order.specs.pg_intent.declared.intent.Intent.TheVariants as intent
-use Rattle.law_order.specs.pg_intent.Intent.{target_of}
-use Rattle.law_order.specs.pg_msg.declared.message.Ends.{Ends}
-use Rattle.law_order.specs.pg_msg.declared.message.Message.{Message}
-use Rattle.law_order.specs.pg_msg.declared.message.Message.TheVariants as message
-use Rattle.law_order.specs.pg_msg.declared.message.Sent.{Sent}
-use Rattle.law_order.specs.pg_msg.declared.work.Work.{Work}
-use Rattle.law_order.specs.pg_msg.Work.{new_work}
-use Rattle.law_order.specs.pg_names.declared.attributes.Attributes.{Attributes}
-use Rattle.law_order.specs.pg_names.Names.{cell_at, own_at}
-use Rattle.law_order.specs.pg_replica.declared.replica.Replica.{Replica}
-use Rattle.law_order.specs.pg_run.Asking.{last_wanted, wanted_by, wanted_in}
-use Rattle.law_order.proofs.pg_run.Bags.{All-every}
-use Rattle.law_order.proofs.pg_run.Event.{AskHas, CellHas, asks_by_have, asks_have, asks_sent, cells_have, cells_sent, end_of, sent_is}
-use Rattle.law_order.proofs.pg_run.LastWalks.{lasts_have}
-use Rattle.law_order.proofs.pg_run.Sends.{AnswersHave, accept_fine, is_plain, received_fine, tick_walk_fine}
-use Rattle.law_order.proofs.pg_run.SendsCalls.{call_fine}
-use Rattle.law_order.proofs.pg_run.Ticked.{tick_work}
-use Rattle.law_order.specs.pg_store.declared.store.Store.{Store}
-use Rattle.law_order.specs.pg_pieces.declared.accepting.EdgeUse.{EdgeUse}
-use Rattle.law_order.specs.pg_pieces.Accepting.{accept}
-use Rattle.law_order.specs.pg_pieces.Posting.{sent_to}
-use Rattle.law_order.specs.pg_cells.Sending.{Wanted, cells_where, is_any, is_chosen, told_as}
-use Rattle.law_order.specs.pg_cells.Ticks.{tick}
-use Rattle.law_order.specs.pg_intentions.Requests.{ask_all, asks, confirm_message, leave_message, request}
-use Rattle.law_order.specs.pg_calls.Calls.{do_call}
-use Rattle.law_order.specs.pg_server.declared.input.Input.{Input}
-use Rattle.law_order.specs.pg_server.declared.input.Input.TheVariants as input
-use Rattle.law_order.specs.pg_server.Local.{effect, first_effect, receive}
-use Rattle.law_order.specs.theory_bodies.Asked.{Asking}
+use Rattle.pg_run.specs.pg_base.declared.id.FileId.{FileId}
+use Rattle.pg_run.specs.pg_base.declared.stamp.Stamp.{Stamp}
+use Rattle.pg_run.specs.pg_call.declared.call.Call.{Call}
+use Rattle.pg_run.specs.pg_edges.declared.edge.Edge.{Edge}
+use Rattle.pg_run.specs.pg_entries.declared.cell.Cell.{Cell}
+use Rattle.pg_run.specs.pg_entries.declared.cell.Cell.TheVariants as cell
+use Rattle.pg_run.specs.pg_entries.declared.entry.Entry.{Entry}
+use Rattle.pg_run.specs.pg_intent.declared.intent.Intent.{Intent}
+use Rattle.pg_run.specs.pg_intent.declared.intent.Intent.TheVariants as intent
+use Rattle.pg_run.specs.pg_intent.Intent.{target_of}
+use Rattle.pg_run.specs.pg_msg.declared.message.Ends.{Ends}
+use Rattle.pg_run.specs.pg_msg.declared.message.Message.{Message}
+use Rattle.pg_run.specs.pg_msg.declared.message.Message.TheVariants as message
+use Rattle.pg_run.specs.pg_msg.declared.message.Sent.{Sent}
+use Rattle.pg_run.specs.pg_msg.declared.work.Work.{Work}
+use Rattle.pg_run.specs.pg_msg.Work.{new_work}
+use Rattle.pg_run.specs.pg_names.declared.attributes.Attributes.{Attributes}
+use Rattle.pg_run.specs.pg_names.Names.{cell_at, own_at}
+use Rattle.pg_run.specs.pg_replica.declared.replica.Replica.{Replica}
+use Rattle.pg_run.specs.Asking.{last_wanted, wanted_by, wanted_in}
+use Rattle.pg_run.proofs.Bags.{All-every}
+use Rattle.pg_run.proofs.Event.{AskHas, CellHas, asks_by_have, asks_have, asks_sent, cells_have, cells_sent, end_of, sent_is}
+use Rattle.pg_run.proofs.LastWalks.{lasts_have}
+use Rattle.pg_run.proofs.Sends.{AnswersHave, accept_fine, is_plain, received_fine, tick_walk_fine}
+use Rattle.pg_run.proofs.SendsCalls.{call_fine}
+use Rattle.pg_run.proofs.Ticked.{tick_work}
+use Rattle.pg_run.specs.pg_store.declared.store.Store.{Store}
+use Rattle.pg_run.specs.pg_pieces.declared.accepting.EdgeUse.{EdgeUse}
+use Rattle.pg_run.specs.pg_pieces.Accepting.{accept}
+use Rattle.pg_run.specs.pg_pieces.Posting.{sent_to}
+use Rattle.pg_run.specs.pg_cells.Sending.{Wanted, cells_where, is_any, is_chosen, told_as}
+use Rattle.pg_run.specs.pg_cells.Ticks.{tick}
+use Rattle.pg_run.specs.pg_intentions.Requests.{ask_all, asks, confirm_message, leave_message, request}
+use Rattle.pg_run.specs.pg_calls.Calls.{do_call}
+use Rattle.pg_run.specs.pg_server.declared.input.Input.{Input}
+use Rattle.pg_run.specs.pg_server.declared.input.Input.TheVariants as input
+use Rattle.pg_run.specs.pg_server.Local.{effect, first_effect, receive}
+use Rattle.pg_run.specs.theory_bodies.Asked.{Asking}
 
 abbrev pub is_want : Message → Bool
 is_want (message.Want ends wanted) = true

@@ -3,40 +3,40 @@ use Rattle.std.proofs.Common.{ℕ, ◌≡◌, ◌==◌, Bool, true, false, cond,
 use Rattle.std.specs.Ordering.{eq_by_cmp}
 use Rattle.std.proofs.lemmas.Bool.{cases_lt}
 use Rattle.std.proofs.lemmas.List.{length-take, take_all}
-use Rattle.law_order.specs.pg_base.declared.id.FileId.{FileId}
-use Rattle.law_order.specs.pg_base.declared.policy.Policy.{Policy}
-use Rattle.law_order.specs.pg_base.declared.stamp.Stamp.{Stamp}
-use Rattle.law_order.specs.pg_base.Stamp.{stamp_cmp}
-use Rattle.law_order.specs.pg_base.Version.{VersionValue}
-use Rattle.law_order.specs.pg_patch.Ranges.{RangesValue}
-use Rattle.law_order.specs.pg_content.Content.{Among, head_at}
-use Rattle.law_order.specs.pg_content.History.{IsMember}
-use Rattle.law_order.proofs.pg_content.Numbers.{member_of}
-use Rattle.law_order.specs.pg_delta.Whole.{delta_of}
-use Rattle.law_order.specs.pg_msg.declared.message.Ends.{Ends}
-use Rattle.law_order.specs.pg_msg.declared.message.Message.TheVariants as message
-use Rattle.law_order.specs.pg_msg.declared.message.Piece.{Piece}
-use Rattle.law_order.specs.pg_msg.declared.message.Wanted.{Wanted}
-use Rattle.law_order.specs.pg_msg.declared.work.Work.{Work}
-use Rattle.law_order.specs.pg_msg.Ends.{back}
-use Rattle.law_order.specs.pg_msg.Work.{new_work}
-use Rattle.law_order.specs.pg_names.Names.{is_dir}
-use Rattle.law_order.specs.pg_pieces.declared.accepting.EdgeUse.TheVariants as manner
-use Rattle.law_order.specs.pg_pieces.Accepting.{accept, is_accepted}
-use Rattle.law_order.specs.pg_pieces.Done.{Done, idle}
-use Rattle.law_order.specs.pg_replica.declared.replica.Replica.{Replica}
-use Rattle.law_order.specs.pg_replica.Replicas.{or_nothing}
-use Rattle.law_order.specs.pg_run.Journal.{Born, made_for}
-use Rattle.law_order.specs.pg_server.pg_transfer.Asking.{put_off}
-use Rattle.law_order.specs.pg_server.pg_transfer.Want.{answered, answered_along, given, given_as, most_in_piece, want}
-use Rattle.law_order.specs.pg_store.declared.store.Store.{Store}
-use Rattle.law_order.specs.pg_store.Store.{replica_at, replica_of}
-use Rattle.law_order.specs.theory_bodies.Book.{IsVersionOf}
-use Rattle.law_order.specs.theory_bodies.Telling.{IsSlice}
-use Rattle.law_order.proofs.theory_bodies.Books.{version_body, version_head}
-use Rattle.law_order.proofs.theory_bodies.Computing.{computed_leads}
-use Rattle.law_order.proofs.theory_bodies.Sends.{led_delta}
-use Rattle.law_order.proofs.theory_flood_pieces.Choices.{chosen}
+use Rattle.pg_run.specs.pg_base.declared.id.FileId.{FileId}
+use Rattle.pg_run.specs.pg_base.declared.policy.Policy.{Policy}
+use Rattle.pg_run.specs.pg_base.declared.stamp.Stamp.{Stamp}
+use Rattle.pg_run.specs.pg_base.Stamp.{stamp_cmp}
+use Rattle.pg_run.specs.pg_base.Version.{VersionValue}
+use Rattle.pg_run.specs.pg_patch.Ranges.{RangesValue}
+use Rattle.pg_run.specs.pg_content.Content.{Among, head_at}
+use Rattle.pg_run.specs.pg_content.History.{IsMember}
+use Rattle.pg_run.proofs.pg_content.Numbers.{member_of}
+use Rattle.pg_run.specs.pg_delta.Whole.{delta_of}
+use Rattle.pg_run.specs.pg_msg.declared.message.Ends.{Ends}
+use Rattle.pg_run.specs.pg_msg.declared.message.Message.TheVariants as message
+use Rattle.pg_run.specs.pg_msg.declared.message.Piece.{Piece}
+use Rattle.pg_run.specs.pg_msg.declared.message.Wanted.{Wanted}
+use Rattle.pg_run.specs.pg_msg.declared.work.Work.{Work}
+use Rattle.pg_run.specs.pg_msg.Ends.{back}
+use Rattle.pg_run.specs.pg_msg.Work.{new_work}
+use Rattle.pg_run.specs.pg_names.Names.{is_dir}
+use Rattle.pg_run.specs.pg_pieces.declared.accepting.EdgeUse.TheVariants as manner
+use Rattle.pg_run.specs.pg_pieces.Accepting.{accept, is_accepted}
+use Rattle.pg_run.specs.pg_pieces.Done.{Done, idle}
+use Rattle.pg_run.specs.pg_replica.declared.replica.Replica.{Replica}
+use Rattle.pg_run.specs.pg_replica.Replicas.{or_nothing}
+use Rattle.pg_run.specs.Journal.{Born, made_for}
+use Rattle.pg_run.specs.pg_server.pg_transfer.Asking.{put_off}
+use Rattle.pg_run.specs.pg_server.pg_transfer.Want.{answered, answered_along, given, given_as, most_in_piece, want}
+use Rattle.pg_run.specs.pg_store.declared.store.Store.{Store}
+use Rattle.pg_run.specs.pg_store.Store.{replica_at, replica_of}
+use Rattle.pg_run.specs.theory_bodies.Book.{IsVersionOf}
+use Rattle.pg_run.specs.theory_bodies.Telling.{IsSlice}
+use Rattle.pg_run.proofs.theory_bodies.Books.{version_body, version_head}
+use Rattle.pg_run.proofs.theory_bodies.Computing.{computed_leads}
+use Rattle.pg_run.proofs.theory_bodies.Sends.{led_delta}
+use Rattle.pg_run.proofs.theory_flood_pieces.Choices.{chosen}
 use Rattle.law_contents.proofs.Changes.{core_of}
 use Rattle.law_contents.proofs.Handlers.{accept_quiet}
 use Rattle.law_contents.proofs.Quiet.{Quiet, quiet_idle, quiet_posted, quiet_then}

@@ -3,24 +3,24 @@
 use Rattle.std.proofs.Common.{ℕ, ◌≡◌, ◌≢◌, ◌<◌, ◌≤◌, ◌^◌, Bool, true, false, cond, List, ◌∷◌, ◌++◌, Some, refl, sym, subst, ◌∙◌, inl, inr, arith}
 use Rattle.std.proofs.lemmas.Bool.Decides.{eqb_tells}
 use Rattle.std.proofs.lemmas.List.Elements.{All-append}
-use Rattle.law_order.specs.pg_base.declared.id.FileId.{FileId}
-use Rattle.law_order.specs.pg_base.declared.policy.Policy.{Policy}
-use Rattle.law_order.specs.pg_base.declared.policy.Policy.TheVariants.{Last}
-use Rattle.law_order.specs.pg_content.Content.{Among}
-use Rattle.law_order.specs.pg_content.History.{IsHistory, Made}
-use Rattle.law_order.specs.theory_flood.World.{after}
-use Rattle.law_order.specs.pg_msg.declared.message.Sent.{Sent}
-use Rattle.law_order.specs.pg_run.Asking.{Asked}
-use Rattle.law_order.specs.pg_run.Journal.{Born, made_for, made_of}
-use Rattle.law_order.specs.pg_run.Took.{Take}
-use Rattle.law_order.specs.pg_server.Local.{Effect}
-use Rattle.law_order.specs.pg_names.Names.{is_dir}
-use Rattle.law_order.specs.pg_store.declared.store.Store.{Store}
-use Rattle.law_order.specs.pg_store.Seen.{server_of}
-use Rattle.law_order.specs.pg_store.Store.{is_held}
-use Rattle.law_order.specs.pg_store.Together.{BirthsMove}
-use Rattle.law_order.proofs.pg_store.Over.{moves_itself}
-use Rattle.law_order.specs.pg_calls.Forgetting.{is_wanted}
+use Rattle.pg_run.specs.pg_base.declared.id.FileId.{FileId}
+use Rattle.pg_run.specs.pg_base.declared.policy.Policy.{Policy}
+use Rattle.pg_run.specs.pg_base.declared.policy.Policy.TheVariants.{Last}
+use Rattle.pg_run.specs.pg_content.Content.{Among}
+use Rattle.pg_run.specs.pg_content.History.{IsHistory, Made}
+use Rattle.pg_run.specs.theory_flood.World.{after}
+use Rattle.pg_run.specs.pg_msg.declared.message.Sent.{Sent}
+use Rattle.pg_run.specs.Asking.{Asked}
+use Rattle.pg_run.specs.Journal.{Born, made_for, made_of}
+use Rattle.pg_run.specs.Took.{Take}
+use Rattle.pg_run.specs.pg_server.Local.{Effect}
+use Rattle.pg_run.specs.pg_names.Names.{is_dir}
+use Rattle.pg_run.specs.pg_store.declared.store.Store.{Store}
+use Rattle.pg_run.specs.pg_store.Seen.{server_of}
+use Rattle.pg_run.specs.pg_store.Store.{is_held}
+use Rattle.pg_run.specs.pg_store.Together.{BirthsMove}
+use Rattle.pg_run.proofs.pg_store.Over.{moves_itself}
+use Rattle.pg_run.specs.pg_calls.Forgetting.{is_wanted}
 use Rattle.law_contents.proofs.Agreed.{Agrees, agrees_later}
 use Rattle.law_contents.proofs.Changes.{Core, IsOrdered, core_at}
 use Rattle.law_contents.proofs.Effects.{IsMaking, IsPassive}

@@ -1,18 +1,18 @@
 -- A version that a server makes on all heads that it holds: it may be made, and the server stands
 -- for it from then on.
 use Rattle.std.proofs.Common.{ℕ, ◌≡◌, ◌<◌, ◌≤◌, ◌^◌, List, ◌∷◌, map, refl, sym, ap, subst, ◌∙◌, inl, inr, arith}
-use Rattle.law_order.specs.pg_base.declared.policy.Policy.{Policy}
-use Rattle.law_order.specs.pg_base.declared.stamp.Stamp.{Stamp}
-use Rattle.law_order.specs.pg_base.declared.vector.Actor.{Actor}
-use Rattle.law_order.specs.pg_base.Vector.{number_at}
-use Rattle.law_order.specs.pg_base.Version.{VersionValue, stamp_of}
-use Rattle.law_order.specs.pg_content.Content.{Among, ContentValue, joined_all, one_more, written}
-use Rattle.law_order.specs.pg_content.History.{IsAncestor, IsHistory, IsMember, IsNext, Made, maker, vector_of}
-use Rattle.law_order.specs.pg_content.StandsFor.{StandsFor}
-use Rattle.law_order.proofs.pg_content.Members.{among_all, among_map}
-use Rattle.law_order.proofs.pg_content.Numbers.{bases_from, made_of as member_made, more_cases, more_same, vector_here}
-use Rattle.law_order.proofs.pg_content.StandsWritten.{may_be_made, stands_written}
-use Rattle.law_order.specs.pg_run.Journal.{Born, made_for, made_of, with_ancestors}
+use Rattle.pg_run.specs.pg_base.declared.policy.Policy.{Policy}
+use Rattle.pg_run.specs.pg_base.declared.stamp.Stamp.{Stamp}
+use Rattle.pg_run.specs.pg_base.declared.vector.Actor.{Actor}
+use Rattle.pg_run.specs.pg_base.Vector.{number_at}
+use Rattle.pg_run.specs.pg_base.Version.{VersionValue, stamp_of}
+use Rattle.pg_run.specs.pg_content.Content.{Among, ContentValue, joined_all, one_more, written}
+use Rattle.pg_run.specs.pg_content.History.{IsAncestor, IsHistory, IsMember, IsNext, Made, maker, vector_of}
+use Rattle.pg_run.specs.pg_content.StandsFor.{StandsFor}
+use Rattle.pg_run.proofs.pg_content.Members.{among_all, among_map}
+use Rattle.pg_run.proofs.pg_content.Numbers.{bases_from, made_of as member_made, more_cases, more_same, vector_here}
+use Rattle.pg_run.proofs.pg_content.StandsWritten.{may_be_made, stands_written}
+use Rattle.pg_run.specs.Journal.{Born, made_for, made_of, with_ancestors}
 use Rattle.law_contents.proofs.Files.{HoldsFile, file_wrote}
 use Rattle.law_contents.proofs.Histories.{AreMade, IsNextUpdate, update_of}
 use Rattle.law_contents.proofs.Times.{number_upto, taken_upto}

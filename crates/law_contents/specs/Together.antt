@@ -1,13 +1,13 @@
 -- What the laws of contents ask of servers: that names and replicas go together, that a birth which
 -- is to come is of what is not here, and that births move one way.
 use Rattle.std.specs.Prelude.{ℕ, List}
-use Rattle.law_order.specs.pg_event.declared.event.Event.{Event}
+use Rattle.pg_run.specs.pg_event.declared.event.Event.{Event}
 use Rattle.law_order.specs.Laws.{AllIsNamed}
-use Rattle.law_order.specs.pg_run.Births.{BirthsMoveOn}
-use Rattle.law_order.specs.pg_run.Intending.{IntentionsAreInOrder}
-use Rattle.law_order.specs.pg_run.Laws.{AtEach, store_after}
-use Rattle.law_order.specs.pg_store.declared.store.Store.{Store}
-use Rattle.law_order.specs.pg_store.Together.{AreBirths, AreTogether}
+use Rattle.pg_run.specs.Births.{BirthsMoveOn}
+use Rattle.pg_run.specs.Intending.{IntentionsAreInOrder}
+use Rattle.pg_run.specs.Laws.{AtEach, store_after}
+use Rattle.pg_run.specs.pg_store.declared.store.Store.{Store}
+use Rattle.pg_run.specs.pg_store.Together.{AreBirths, AreTogether}
 
 -- together: just what is held has a replica
 -- births: of what is held, and of what is to come

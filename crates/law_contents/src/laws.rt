@@ -3,11 +3,11 @@
 
 ghost use Rattle.std.specs.Prelude.{ℕ, ◌<◌, ◌^◌};
 ghost use Rattle.law_contents.specs.Together.{StandOn};
-ghost use Rattle.law_order.specs.pg_run.Bodies.{OneIsAskedAtATime};
-ghost use Rattle.law_order.specs.pg_run.Deltas.{KeepsWhatItMadeOrTook};
-ghost use Rattle.law_order.specs.pg_run.Histories.{AncestryByVectors, CarriesHistory, ClockEndsFirst, HistoryIsWhatWasMade, MakesHistories, OneVersionAStamp, StateIsDetermined, StateIsItsHeads};
-ghost use Rattle.law_order.specs.pg_run.Laws.{HoldsWhatItTook};
-ghost use Rattle.law_order.specs.pg_run.Noted.{SourcesAnnounced};
+ghost use Rattle.pg_run.specs.Bodies.{OneIsAskedAtATime};
+ghost use Rattle.pg_run.specs.Deltas.{KeepsWhatItMadeOrTook};
+ghost use Rattle.pg_run.specs.Histories.{AncestryByVectors, CarriesHistory, ClockEndsFirst, HistoryIsWhatWasMade, MakesHistories, OneVersionAStamp, StateIsDetermined, StateIsItsHeads};
+ghost use Rattle.pg_run.specs.Laws.{HoldsWhatItTook};
+ghost use Rattle.pg_run.specs.Noted.{SourcesAnnounced};
 
 /// What a server holds of a file's content is the state of exactly the versions that it took,
 /// whatever was lost, repeated or late.

@@ -3,33 +3,33 @@ use Rattle.std.proofs.Common.{ℕ, ◌≡◌, Bool, true, false, cond, not, List
 use Rattle.std.proofs.lemmas.Bool.{and_parts}
 use Rattle.std.proofs.lemmas.Bool.Decides.{Decides-eqb}
 use Rattle.std.proofs.lemmas.List.{append-nil}
-use Rattle.law_contents.specs.pg_base.Version.{VersionValue}
-use Rattle.law_contents.specs.pg_patch.Ranges.{RangesValue}
-use Rattle.law_contents.specs.pg_content.Content.{head_at}
-use Rattle.law_contents.specs.pg_delta.Whole.{delta_of}
-use Rattle.law_contents.specs.pg_msg.declared.message.Ends.{Ends}
-use Rattle.law_contents.specs.pg_msg.declared.message.Message.{Message}
-use Rattle.law_contents.specs.pg_msg.declared.message.Message.TheVariants as message
-use Rattle.law_contents.specs.pg_msg.declared.message.Packet.{Packet}
-use Rattle.law_contents.specs.pg_msg.declared.message.Sent.{Sent}
-use Rattle.law_contents.specs.pg_msg.declared.message.Wanted.{Wanted}
-use Rattle.law_contents.specs.pg_msg.declared.work.Work.{Work}
-use Rattle.law_contents.specs.pg_msg.Work.{new_work}
-use Rattle.law_contents.specs.pg_names.Names.{is_dir}
-use Rattle.law_contents.specs.pg_run.Deltas.{change_or_bytes}
-use Rattle.law_contents.specs.pg_store.declared.store.Store.{Store}
-use Rattle.law_contents.specs.pg_store.Births.{has_birth}
-use Rattle.law_contents.specs.pg_store.Links.{knows_later}
-use Rattle.law_contents.specs.pg_store.Store.{content_of, replica_of}
-use Rattle.law_contents.specs.pg_pieces.declared.accepting.EdgeUse.TheVariants as manner
-use Rattle.law_contents.specs.pg_pieces.Accepting.{accept, is_accepted, is_current, meets, with_gone}
-use Rattle.law_contents.specs.pg_pieces.Done.{Done, idle}
-use Rattle.law_contents.specs.pg_pieces.Posting.{post, sent_to}
-use Rattle.law_contents.specs.pg_cells.Sending.{cells_where, is_chosen}
-use Rattle.law_contents.specs.pg_server.declared.input.Input.TheVariants as input
-use Rattle.law_contents.specs.pg_server.Local.{Effect, closed, effect, finished, is_heard, receive}
-use Rattle.law_contents.specs.pg_server.pg_transfer.Want.{answered, answered_along, given, given_as, want}
-use Rattle.law_contents.proofs.pg_run.Ticks.{IsTidy, bare_sends, closed_is}
+use Rattle.pg_run.specs.pg_base.Version.{VersionValue}
+use Rattle.pg_run.specs.pg_patch.Ranges.{RangesValue}
+use Rattle.pg_run.specs.pg_content.Content.{head_at}
+use Rattle.pg_run.specs.pg_delta.Whole.{delta_of}
+use Rattle.pg_run.specs.pg_msg.declared.message.Ends.{Ends}
+use Rattle.pg_run.specs.pg_msg.declared.message.Message.{Message}
+use Rattle.pg_run.specs.pg_msg.declared.message.Message.TheVariants as message
+use Rattle.pg_run.specs.pg_msg.declared.message.Packet.{Packet}
+use Rattle.pg_run.specs.pg_msg.declared.message.Sent.{Sent}
+use Rattle.pg_run.specs.pg_msg.declared.message.Wanted.{Wanted}
+use Rattle.pg_run.specs.pg_msg.declared.work.Work.{Work}
+use Rattle.pg_run.specs.pg_msg.Work.{new_work}
+use Rattle.pg_run.specs.pg_names.Names.{is_dir}
+use Rattle.pg_run.specs.Deltas.{change_or_bytes}
+use Rattle.pg_run.specs.pg_store.declared.store.Store.{Store}
+use Rattle.pg_run.specs.pg_store.Births.{has_birth}
+use Rattle.pg_run.specs.pg_store.Links.{knows_later}
+use Rattle.pg_run.specs.pg_store.Store.{content_of, replica_of}
+use Rattle.pg_run.specs.pg_pieces.declared.accepting.EdgeUse.TheVariants as manner
+use Rattle.pg_run.specs.pg_pieces.Accepting.{accept, is_accepted, is_current, meets, with_gone}
+use Rattle.pg_run.specs.pg_pieces.Done.{Done, idle}
+use Rattle.pg_run.specs.pg_pieces.Posting.{post, sent_to}
+use Rattle.pg_run.specs.pg_cells.Sending.{cells_where, is_chosen}
+use Rattle.pg_run.specs.pg_server.declared.input.Input.TheVariants as input
+use Rattle.pg_run.specs.pg_server.Local.{Effect, closed, effect, finished, is_heard, receive}
+use Rattle.pg_run.specs.pg_server.pg_transfer.Want.{answered, answered_along, given, given_as, want}
+use Rattle.pg_run.proofs.Ticks.{IsTidy, bare_sends, closed_is}
 
 -- ---- it is accepted
 

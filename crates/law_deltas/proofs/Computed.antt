@@ -1,15 +1,15 @@
 -- What is computed of kept deltas is what is to be sent.
 use Rattle.std.proofs.Common.{ℕ, ◌≡◌, ◌≢◌, Bool, true, false, cond, List, [], ◌∷◌, Option, None, Some, option_map, reverse, inl, inr, refl, sym, ap, subst, ◌∙◌}
 use Rattle.std.specs.Option.{option_and_then}
-use Rattle.law_contents.specs.pg_base.declared.stamp.Stamp.{Stamp}
-use Rattle.law_contents.specs.pg_patch.Ranges.{RangesValue}
-use Rattle.law_contents.specs.pg_content.Content.{Among}
-use Rattle.law_contents.specs.pg_content.History.{is_same_stamp}
-use Rattle.law_contents.specs.pg_delta.declared.delta.KeptDelta.{KeptDelta}
-use Rattle.law_contents.specs.pg_delta.Chain.{IsDelta, LeadsBy, are_same_stamps, chain, chain_of, is_worth_sending, only}
-use Rattle.law_contents.specs.pg_delta.Whole.{composed, delta_of, in_one}
-use Rattle.law_contents.proofs.theory_bodies.Computing.{HaveRanges, composed_of}
-use Rattle.law_contents.proofs.theory_bodies.Sends.{among_reverse}
+use Rattle.pg_run.specs.pg_base.declared.stamp.Stamp.{Stamp}
+use Rattle.pg_run.specs.pg_patch.Ranges.{RangesValue}
+use Rattle.pg_run.specs.pg_content.Content.{Among}
+use Rattle.pg_run.specs.pg_content.History.{is_same_stamp}
+use Rattle.pg_run.specs.pg_delta.declared.delta.KeptDelta.{KeptDelta}
+use Rattle.pg_run.specs.pg_delta.Chain.{IsDelta, LeadsBy, are_same_stamps, chain, chain_of, is_worth_sending, only}
+use Rattle.pg_run.specs.pg_delta.Whole.{composed, delta_of, in_one}
+use Rattle.pg_run.proofs.theory_bodies.Computing.{HaveRanges, composed_of}
+use Rattle.pg_run.proofs.theory_bodies.Sends.{among_reverse}
 
 same_steps : (xs ys : List KeptDelta) → Some xs ≡ Some ys → xs ≡ ys
 same_steps xs ys e = cc

@@ -1,22 +1,22 @@
 -- A Want for a head is answered by the shortest change that what was made and taken leads to.
 use Rattle.std.proofs.Common.{ℕ, ◌≡◌, ◌<◌, ◌^◌, List, Option, option_map, sym, ap, subst, ◌∙◌}
-use Rattle.law_contents.specs.pg_delta.declared.delta.KeptDelta.{KeptDelta}
-use Rattle.law_contents.specs.pg_delta.Chain.{IsDelta}
-use Rattle.law_contents.specs.pg_delta.Kept.{kept_deltas}
-use Rattle.law_contents.specs.pg_replica.declared.replica.Replica.{Replica}
-use Rattle.law_contents.specs.pg_replica.Replicas.{or_nothing}
-use Rattle.law_contents.specs.pg_run.Deltas.{WantsGetTheShortestChange, deltas_after}
-use Rattle.law_contents.specs.pg_run.Run.{Step, Taking, run}
-use Rattle.law_contents.specs.pg_pieces.declared.accepting.EdgeUse.TheVariants as manner
-use Rattle.law_contents.specs.pg_server.declared.input.Input.TheVariants as input
-use Rattle.law_contents.specs.pg_store.Store.{replica_of}
+use Rattle.pg_run.specs.pg_delta.declared.delta.KeptDelta.{KeptDelta}
+use Rattle.pg_run.specs.pg_delta.Chain.{IsDelta}
+use Rattle.pg_run.specs.pg_delta.Kept.{kept_deltas}
+use Rattle.pg_run.specs.pg_replica.declared.replica.Replica.{Replica}
+use Rattle.pg_run.specs.pg_replica.Replicas.{or_nothing}
+use Rattle.pg_run.specs.Deltas.{WantsGetTheShortestChange, deltas_after}
+use Rattle.pg_run.specs.Run.{Step, Taking, run}
+use Rattle.pg_run.specs.pg_pieces.declared.accepting.EdgeUse.TheVariants as manner
+use Rattle.pg_run.specs.pg_server.declared.input.Input.TheVariants as input
+use Rattle.pg_run.specs.pg_store.Store.{replica_of}
 use Rattle.law_contents.specs.Together.{StandOn}
 use Rattle.law_contents.proofs.Accepted.{accepted_there}
 use Rattle.law_contents.proofs.Changes.{core_of}
 use Rattle.law_contents.proofs.KeptRuns.{keeps_what_it_made_or_took}
 use Rattle.law_contents.proofs.Runs.{run_sound}
-use Rattle.law_contents.proofs.pg_run.Frame.{acts_is, next_is}
-use Rattle.law_contents.proofs.theory_bodies.Computing.{HaveRanges}
+use Rattle.pg_run.proofs.Frame.{acts_is, next_is}
+use Rattle.pg_run.proofs.theory_bodies.Computing.{HaveRanges}
 use Rattle.law_ticks.specs.Given.{TidinessIsGiven}
 use Rattle.law_ticks.proofs.Ticks.{tidy}
 use Rattle.law_deltas.proofs.Answered.{Change, only_answers}

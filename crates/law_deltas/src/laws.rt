@@ -3,7 +3,7 @@
 
 ghost use Rattle.std.specs.Prelude.{ℕ, ◌<◌, ◌^◌};
 ghost use Rattle.law_contents.specs.Together.{StandOn};
-ghost use Rattle.law_contents.specs.pg_run.Deltas.{WantsGetTheShortestChange};
+ghost use Rattle.pg_run.specs.Deltas.{WantsGetTheShortestChange};
 ghost use Rattle.law_ticks.specs.Given.{TidinessIsGiven};
 
 /// A Want for a head from its first byte on is answered by a Delta exactly where a chain of the

@@ -7,3 +7,4 @@ pub mod KeepsCalls
 pub mod Called
 pub mod Ended
 pub mod Asked
+pub use Rattle.pg_run.proofs as pg_run

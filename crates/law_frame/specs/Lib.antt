@@ -1,1 +1,2 @@
 pub mod Askers
+pub use Rattle.pg_run.specs as pg_run

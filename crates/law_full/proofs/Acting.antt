@@ -1,12 +1,12 @@
 -- What an event keeps: one server takes an input, or none does. And what every event keeps, a run
 -- does, from whichever world on.
 use Rattle.std.proofs.Common.{ℕ, ◌≡◌, ◌≤◌, List, [], ◌∷◌, Option, None, Some, refl, sym, subst}
-use Rattle.pg_run.specs.pg_event.declared.entry.VoidCause.{VoidCause}
-use Rattle.pg_run.specs.pg_event.declared.event.Event.{Event}
-use Rattle.pg_run.specs.pg_server.declared.input.Input.{Input}
-use Rattle.pg_run.specs.Laws.{TakesIn}
-use Rattle.pg_run.specs.Run.{Step, Taking, World, effect_step, idle_step, next, run_from, taking_in, world_after}
-use Rattle.pg_run.proofs.Frame.{HasCome, IsFramed, framed}
+use Rattle.law_frame.specs.pg_run.pg_event.declared.entry.VoidCause.{VoidCause}
+use Rattle.law_frame.specs.pg_run.pg_event.declared.event.Event.{Event}
+use Rattle.law_frame.specs.pg_run.pg_server.declared.input.Input.{Input}
+use Rattle.law_frame.specs.pg_run.Laws.{TakesIn}
+use Rattle.law_frame.specs.pg_run.Run.{Step, Taking, World, effect_step, idle_step, next, run_from, taking_in, world_after}
+use Rattle.law_frame.proofs.pg_run.Frame.{HasCome, IsFramed, framed}
 
 -- P holds behind an event in which no server takes an input, and behind one in which a server does
 pub record IsKeptBy (n : ℕ) (w : World) (P : World → Type 0) : Type 0 where

@@ -2,33 +2,33 @@
 -- for a gold.
 use Rattle.std.proofs.Common.{ℕ, ◌≡◌, true, false, List, Option, None, Some, Ok, refl, sym, ap, subst, ◌∙◌, ◌⊎◌, inl, inr}
 use Rattle.std.proofs.lemmas.Bool.{false≢true}
-use Rattle.pg_run.specs.pg_base.declared.id.FileId.{FileId}
-use Rattle.pg_run.specs.pg_base.declared.stamp.Stamp.{Stamp}
-use Rattle.pg_run.specs.pg_patch.Ranges.{RangesValue}
-use Rattle.pg_run.specs.pg_edges.declared.key.Key.TheVariants as key
-use Rattle.pg_run.specs.pg_register.declared.place.Place.{Place}
-use Rattle.pg_run.specs.pg_entries.declared.entry.Entry.{Entry}
-use Rattle.pg_run.specs.pg_msg.declared.message.Message.TheVariants as message
-use Rattle.pg_run.specs.pg_msg.declared.update.MadeVersion.{MadeVersion}
-use Rattle.pg_run.specs.pg_msg.declared.update.Update.TheVariants as update
-use Rattle.pg_run.specs.pg_msg.declared.work.Work.{Work}
-use Rattle.pg_run.specs.pg_msg.Work.{with_made}
-use Rattle.pg_run.specs.pg_call.declared.call.Call.{Call}
-use Rattle.pg_run.specs.pg_call.declared.call.Call.TheVariants as call
-use Rattle.pg_run.specs.pg_call.declared.refusal.Refusal.TheVariants.{IsDir}
-use Rattle.pg_run.specs.pg_names.Names.{cell_at, is_dir, known}
-use Rattle.pg_run.specs.pg_store.declared.store.Store.{Store}
-use Rattle.pg_run.specs.pg_store.Births.{draw_birth}
-use Rattle.pg_run.specs.pg_pieces.Done.{Done, idle}
-use Rattle.pg_run.specs.pg_pieces.Making.{own_next}
-use Rattle.pg_run.specs.pg_checks.Answer.{unless}
-use Rattle.pg_run.specs.pg_checks.Asking.{holder}
-use Rattle.pg_run.specs.pg_calls.Calls.{do_call}
-use Rattle.pg_run.specs.pg_checks.Checks.{empty_dir_at, file_at, first_child, thing_at, unless_child}
-use Rattle.pg_run.specs.pg_calls.Dropping.{leave_of}
-use Rattle.pg_run.specs.pg_calls.Forgetting.{bare_entry, dead_at, dead_by, lists_by, lists_in}
-use Rattle.pg_run.specs.pg_calls.Making.{drawn, make_version, version_of}
-use Rattle.pg_run.proofs.pg_calls.Checked.{behind, no_ok, same_ok, unless_ok}
+use Rattle.law_frame.specs.pg_run.pg_base.declared.id.FileId.{FileId}
+use Rattle.law_frame.specs.pg_run.pg_base.declared.stamp.Stamp.{Stamp}
+use Rattle.law_frame.specs.pg_run.pg_patch.Ranges.{RangesValue}
+use Rattle.law_frame.specs.pg_run.pg_edges.declared.key.Key.TheVariants as key
+use Rattle.law_frame.specs.pg_run.pg_register.declared.place.Place.{Place}
+use Rattle.law_frame.specs.pg_run.pg_entries.declared.entry.Entry.{Entry}
+use Rattle.law_frame.specs.pg_run.pg_msg.declared.message.Message.TheVariants as message
+use Rattle.law_frame.specs.pg_run.pg_msg.declared.update.MadeVersion.{MadeVersion}
+use Rattle.law_frame.specs.pg_run.pg_msg.declared.update.Update.TheVariants as update
+use Rattle.law_frame.specs.pg_run.pg_msg.declared.work.Work.{Work}
+use Rattle.law_frame.specs.pg_run.pg_msg.Work.{with_made}
+use Rattle.law_frame.specs.pg_run.pg_call.declared.call.Call.{Call}
+use Rattle.law_frame.specs.pg_run.pg_call.declared.call.Call.TheVariants as call
+use Rattle.law_frame.specs.pg_run.pg_call.declared.refusal.Refusal.TheVariants.{IsDir}
+use Rattle.law_frame.specs.pg_run.pg_names.Names.{cell_at, is_dir, known}
+use Rattle.law_frame.specs.pg_run.pg_store.declared.store.Store.{Store}
+use Rattle.law_frame.specs.pg_run.pg_store.Births.{draw_birth}
+use Rattle.law_frame.specs.pg_run.pg_pieces.Done.{Done, idle}
+use Rattle.law_frame.specs.pg_run.pg_pieces.Making.{own_next}
+use Rattle.law_frame.specs.pg_run.pg_checks.Answer.{unless}
+use Rattle.law_frame.specs.pg_run.pg_checks.Asking.{holder}
+use Rattle.law_frame.specs.pg_run.pg_calls.Calls.{do_call}
+use Rattle.law_frame.specs.pg_run.pg_checks.Checks.{empty_dir_at, file_at, first_child, thing_at, unless_child}
+use Rattle.law_frame.specs.pg_run.pg_calls.Dropping.{leave_of}
+use Rattle.law_frame.specs.pg_run.pg_calls.Forgetting.{bare_entry, dead_at, dead_by, lists_by, lists_in}
+use Rattle.law_frame.specs.pg_run.pg_calls.Making.{drawn, make_version, version_of}
+use Rattle.law_frame.proofs.pg_run.pg_calls.Checked.{behind, no_ok, same_ok, unless_ok}
 use Rattle.law_frame.proofs.Called.{call_keeps}
 use Rattle.law_frame.proofs.KeepsCalls.{KeepsCalls, MakesPlace}
 use Rattle.law_full.proofs.Plain.{entered_sends, intent_sends, plain_sends}

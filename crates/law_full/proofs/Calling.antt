@@ -1,43 +1,43 @@
 -- What each call keeps of names: new things, places that things get, and versions, which raise the
 -- greatest time.
 use Rattle.std.proofs.Common.{ℕ, ◌≡◌, ◌==◌, false, List, Option, None, Some, Result, Ok, Err, refl, sym, subst}
-use Rattle.pg_run.specs.pg_base.declared.id.FileId.{FileId}
-use Rattle.pg_run.specs.pg_base.declared.id.Kind.{Kind}
-use Rattle.pg_run.specs.pg_base.declared.id.Kind.TheVariants.{Dir, File}
-use Rattle.pg_run.specs.pg_base.declared.policy.Policy.{Policy}
-use Rattle.pg_run.specs.pg_base.declared.policy.Policy.TheVariants.{Last}
-use Rattle.pg_run.specs.pg_patch.Ranges.{RangesValue, cut_to, written}
-use Rattle.pg_run.specs.pg_register.declared.flag.Flag.{Flag}
-use Rattle.pg_run.specs.pg_register.declared.place.Place.{Place}
-use Rattle.pg_run.specs.pg_msg.declared.work.Work.{Work}
-use Rattle.pg_run.specs.pg_call.declared.call.Call.{Call}
-use Rattle.pg_run.specs.pg_call.declared.call.Call.TheVariants as call
-use Rattle.pg_run.specs.pg_call.declared.reply.Reply.{Reply}
-use Rattle.pg_run.specs.pg_names.Names.{NamesValue, raise, remove_server}
-use Rattle.pg_run.specs.pg_store.declared.store.Store.{Store}
-use Rattle.pg_run.specs.pg_store.declared.wishes.Wish.{Wish}
-use Rattle.pg_run.specs.pg_store.Births.{with_birth, with_wish}
-use Rattle.pg_run.specs.pg_store.Store.{take_flag, take_place}
-use Rattle.pg_run.proofs.pg_store.Entered.{enter_names}
-use Rattle.pg_run.specs.pg_lookup.declared.paths.Found.{Found}
-use Rattle.pg_run.specs.pg_lookup.declared.paths.LookupError.{LookupError}
-use Rattle.pg_run.specs.pg_lookup.declared.paths.LookupError.TheVariants as stop
-use Rattle.pg_run.specs.pg_pieces.Done.{Done, idle}
-use Rattle.pg_run.specs.pg_pieces.Golds.{is_gold}
-use Rattle.pg_run.specs.pg_pieces.Making.{lower_flag, own_next}
-use Rattle.pg_run.specs.pg_checks.declared.checks.NewName.{NewName}
-use Rattle.pg_run.specs.pg_checks.Answer.{Answer, answered, replied, told}
-use Rattle.pg_run.specs.pg_checks.Asking.{ask_by, ask_first, fetch, fresh_wish, holder, standing}
-use Rattle.pg_run.specs.pg_calls.Bodies.{change, change_file, when_fit}
-use Rattle.pg_run.specs.pg_calls.Calls.{do_call}
-use Rattle.pg_run.specs.pg_checks.Checks.{dir_at, empty_dir_at, file_at, in_time, move_of, new_name, target_at}
-use Rattle.pg_run.specs.pg_calls.Demoting.{demoted_at}
-use Rattle.pg_run.specs.pg_calls.Dropping.{clean_gold, dropped_at, leaving}
-use Rattle.pg_run.specs.pg_calls.Forgetting.{forget_lost, lost_at}
-use Rattle.pg_run.specs.pg_calls.GivingUp.{removal_at}
-use Rattle.pg_run.specs.pg_calls.Making.{drawn}
-use Rattle.pg_run.specs.pg_calls.Naming.{next_id, with_id, with_thing}
-use Rattle.pg_run.proofs.theory_flood_pieces.Choices.{chosen}
+use Rattle.law_frame.specs.pg_run.pg_base.declared.id.FileId.{FileId}
+use Rattle.law_frame.specs.pg_run.pg_base.declared.id.Kind.{Kind}
+use Rattle.law_frame.specs.pg_run.pg_base.declared.id.Kind.TheVariants.{Dir, File}
+use Rattle.law_frame.specs.pg_run.pg_base.declared.policy.Policy.{Policy}
+use Rattle.law_frame.specs.pg_run.pg_base.declared.policy.Policy.TheVariants.{Last}
+use Rattle.law_frame.specs.pg_run.pg_patch.Ranges.{RangesValue, cut_to, written}
+use Rattle.law_frame.specs.pg_run.pg_register.declared.flag.Flag.{Flag}
+use Rattle.law_frame.specs.pg_run.pg_register.declared.place.Place.{Place}
+use Rattle.law_frame.specs.pg_run.pg_msg.declared.work.Work.{Work}
+use Rattle.law_frame.specs.pg_run.pg_call.declared.call.Call.{Call}
+use Rattle.law_frame.specs.pg_run.pg_call.declared.call.Call.TheVariants as call
+use Rattle.law_frame.specs.pg_run.pg_call.declared.reply.Reply.{Reply}
+use Rattle.law_frame.specs.pg_run.pg_names.Names.{NamesValue, raise, remove_server}
+use Rattle.law_frame.specs.pg_run.pg_store.declared.store.Store.{Store}
+use Rattle.law_frame.specs.pg_run.pg_store.declared.wishes.Wish.{Wish}
+use Rattle.law_frame.specs.pg_run.pg_store.Births.{with_birth, with_wish}
+use Rattle.law_frame.specs.pg_run.pg_store.Store.{take_flag, take_place}
+use Rattle.law_frame.proofs.pg_run.pg_store.Entered.{enter_names}
+use Rattle.law_frame.specs.pg_run.pg_lookup.declared.paths.Found.{Found}
+use Rattle.law_frame.specs.pg_run.pg_lookup.declared.paths.LookupError.{LookupError}
+use Rattle.law_frame.specs.pg_run.pg_lookup.declared.paths.LookupError.TheVariants as stop
+use Rattle.law_frame.specs.pg_run.pg_pieces.Done.{Done, idle}
+use Rattle.law_frame.specs.pg_run.pg_pieces.Golds.{is_gold}
+use Rattle.law_frame.specs.pg_run.pg_pieces.Making.{lower_flag, own_next}
+use Rattle.law_frame.specs.pg_run.pg_checks.declared.checks.NewName.{NewName}
+use Rattle.law_frame.specs.pg_run.pg_checks.Answer.{Answer, answered, replied, told}
+use Rattle.law_frame.specs.pg_run.pg_checks.Asking.{ask_by, ask_first, fetch, fresh_wish, holder, standing}
+use Rattle.law_frame.specs.pg_run.pg_calls.Bodies.{change, change_file, when_fit}
+use Rattle.law_frame.specs.pg_run.pg_calls.Calls.{do_call}
+use Rattle.law_frame.specs.pg_run.pg_checks.Checks.{dir_at, empty_dir_at, file_at, in_time, move_of, new_name, target_at}
+use Rattle.law_frame.specs.pg_run.pg_calls.Demoting.{demoted_at}
+use Rattle.law_frame.specs.pg_run.pg_calls.Dropping.{clean_gold, dropped_at, leaving}
+use Rattle.law_frame.specs.pg_run.pg_calls.Forgetting.{forget_lost, lost_at}
+use Rattle.law_frame.specs.pg_run.pg_calls.GivingUp.{removal_at}
+use Rattle.law_frame.specs.pg_run.pg_calls.Making.{drawn}
+use Rattle.law_frame.specs.pg_run.pg_calls.Naming.{next_id, with_id, with_thing}
+use Rattle.law_frame.proofs.pg_run.theory_flood_pieces.Choices.{chosen}
 
 -- a property of names that what a call does keeps, at a server that holds this: a new thing, a
 -- place with the stamp that is drawn now, a flag, a greater time, what was lost and is given up,

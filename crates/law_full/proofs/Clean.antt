@@ -5,24 +5,24 @@ use Rattle.std.specs.Prelude.{Contains}
 use Rattle.std.specs.List.{IsAmong}
 use Rattle.std.proofs.lemmas.Bool.{eqb-true, false≢true}
 use Rattle.std.proofs.lemmas.Option.{none-some, same_Some}
-use Rattle.pg_run.specs.pg_base.declared.id.FileId.{FileId}
-use Rattle.pg_run.specs.pg_content.Content.{Among}
-use Rattle.pg_run.specs.pg_edges.declared.edge.Edge.{Edge}
-use Rattle.pg_run.specs.pg_edges.declared.key.Key.{Key}
-use Rattle.pg_run.specs.pg_edges.declared.key.Key.TheVariants as key
-use Rattle.pg_run.specs.pg_edges.Edges.{edge_to, is_none, keys_at, keys_if_born, makes_edge}
-use Rattle.pg_run.specs.pg_edges.Keys.{tag_in}
-use Rattle.pg_run.proofs.pg_edges.Links.{links}
-use Rattle.pg_run.specs.pg_names.Names.{is_held}
-use Rattle.pg_run.specs.pg_replica.declared.replica.Replica.{Replica}
-use Rattle.pg_run.specs.pg_replica.Replica.{are_none, is_clean_to, with_link}
-use Rattle.pg_run.specs.pg_replica.Replicas.{or_nothing, replicas_linked, takes_link}
-use Rattle.pg_run.specs.pg_store.declared.store.Store.{Store}
-use Rattle.pg_run.specs.pg_store.Links.{is_clean, is_new_link, keys, link, put_link}
-use Rattle.pg_run.specs.pg_store.Store.{replica_at}
-use Rattle.pg_run.proofs.theory_flood_pieces.AllKeys.{keys_all}
-use Rattle.pg_run.proofs.theory_flood_pieces.Stores.{Changes, replica_here}
-use Rattle.pg_run.proofs.Lists.{among_contained}
+use Rattle.law_frame.specs.pg_run.pg_base.declared.id.FileId.{FileId}
+use Rattle.law_frame.specs.pg_run.pg_content.Content.{Among}
+use Rattle.law_frame.specs.pg_run.pg_edges.declared.edge.Edge.{Edge}
+use Rattle.law_frame.specs.pg_run.pg_edges.declared.key.Key.{Key}
+use Rattle.law_frame.specs.pg_run.pg_edges.declared.key.Key.TheVariants as key
+use Rattle.law_frame.specs.pg_run.pg_edges.Edges.{edge_to, is_none, keys_at, keys_if_born, makes_edge}
+use Rattle.law_frame.specs.pg_run.pg_edges.Keys.{tag_in}
+use Rattle.law_frame.proofs.pg_run.pg_edges.Links.{links}
+use Rattle.law_frame.specs.pg_run.pg_names.Names.{is_held}
+use Rattle.law_frame.specs.pg_run.pg_replica.declared.replica.Replica.{Replica}
+use Rattle.law_frame.specs.pg_run.pg_replica.Replica.{are_none, is_clean_to, with_link}
+use Rattle.law_frame.specs.pg_run.pg_replica.Replicas.{or_nothing, replicas_linked, takes_link}
+use Rattle.law_frame.specs.pg_run.pg_store.declared.store.Store.{Store}
+use Rattle.law_frame.specs.pg_run.pg_store.Links.{is_clean, is_new_link, keys, link, put_link}
+use Rattle.law_frame.specs.pg_run.pg_store.Store.{replica_at}
+use Rattle.law_frame.proofs.pg_run.theory_flood_pieces.AllKeys.{keys_all}
+use Rattle.law_frame.proofs.pg_run.theory_flood_pieces.Stores.{Changes, replica_here}
+use Rattle.law_frame.proofs.pg_run.Lists.{among_contained}
 
 -- ---- an edge that is found
 

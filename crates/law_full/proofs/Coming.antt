@@ -1,27 +1,27 @@
 -- What each message keeps of names.
 use Rattle.std.proofs.Common.{ℕ, ◌≡◌, ◌&&◌, not, Bool, true, false}
 use Rattle.std.proofs.lemmas.Bool.{and_parts}
-use Rattle.pg_run.proofs.pg_graph.LeaveOk.{MayGo}
-use Rattle.pg_run.specs.pg_base.declared.id.FileId.{FileId}
-use Rattle.pg_run.specs.pg_base.declared.stamp.Stamp.{Stamp}
-use Rattle.pg_run.specs.pg_entries.declared.cell.Cell.TheVariants as cell
-use Rattle.pg_run.specs.pg_entries.declared.entry.Entry.{Entry}
-use Rattle.pg_run.specs.pg_msg.declared.message.Ends.{Ends}
-use Rattle.pg_run.specs.pg_msg.declared.message.Granted.{Granted}
-use Rattle.pg_run.specs.pg_msg.declared.message.Message.TheVariants as message
-use Rattle.pg_run.specs.pg_msg.declared.message.Message.{Message}
-use Rattle.pg_run.specs.pg_msg.declared.work.Work.{Work}
-use Rattle.pg_run.specs.pg_names.Names.{NamesValue, let_go as let_go_names}
-use Rattle.pg_run.specs.pg_names.declared.attributes.Attributes.{Attributes}
-use Rattle.pg_run.specs.pg_pieces.Accepting.{is_current}
-use Rattle.pg_run.specs.pg_pieces.Done.{Done}
-use Rattle.pg_run.specs.pg_pieces.Making.{own_next}
-use Rattle.pg_run.specs.pg_register.declared.place.Place.{Place}
-use Rattle.pg_run.specs.pg_repair.Granting.{granted_own}
-use Rattle.pg_run.specs.pg_server.Local.{receive}
-use Rattle.pg_run.specs.pg_store.Births.{has_birth}
-use Rattle.pg_run.specs.pg_store.Links.{knows_later}
-use Rattle.pg_run.specs.pg_store.declared.store.Store.{Store}
+use Rattle.law_frame.proofs.pg_run.pg_graph.LeaveOk.{MayGo}
+use Rattle.law_frame.specs.pg_run.pg_base.declared.id.FileId.{FileId}
+use Rattle.law_frame.specs.pg_run.pg_base.declared.stamp.Stamp.{Stamp}
+use Rattle.law_frame.specs.pg_run.pg_entries.declared.cell.Cell.TheVariants as cell
+use Rattle.law_frame.specs.pg_run.pg_entries.declared.entry.Entry.{Entry}
+use Rattle.law_frame.specs.pg_run.pg_msg.declared.message.Ends.{Ends}
+use Rattle.law_frame.specs.pg_run.pg_msg.declared.message.Granted.{Granted}
+use Rattle.law_frame.specs.pg_run.pg_msg.declared.message.Message.TheVariants as message
+use Rattle.law_frame.specs.pg_run.pg_msg.declared.message.Message.{Message}
+use Rattle.law_frame.specs.pg_run.pg_msg.declared.work.Work.{Work}
+use Rattle.law_frame.specs.pg_run.pg_names.Names.{NamesValue, let_go as let_go_names}
+use Rattle.law_frame.specs.pg_run.pg_names.declared.attributes.Attributes.{Attributes}
+use Rattle.law_frame.specs.pg_run.pg_pieces.Accepting.{is_current}
+use Rattle.law_frame.specs.pg_run.pg_pieces.Done.{Done}
+use Rattle.law_frame.specs.pg_run.pg_pieces.Making.{own_next}
+use Rattle.law_frame.specs.pg_run.pg_register.declared.place.Place.{Place}
+use Rattle.law_frame.specs.pg_run.pg_repair.Granting.{granted_own}
+use Rattle.law_frame.specs.pg_run.pg_server.Local.{receive}
+use Rattle.law_frame.specs.pg_run.pg_store.Births.{has_birth}
+use Rattle.law_frame.specs.pg_run.pg_store.Links.{knows_later}
+use Rattle.law_frame.specs.pg_run.pg_store.declared.store.Store.{Store}
 use Rattle.law_frame.proofs.Keeps.{Keeps}
 use Rattle.law_frame.proofs.Received.{receive_keeps}
 use Rattle.law_full.proofs.Pieces.{AreKept, begin_kept, entry_kept, flag_kept, link_kept, place_kept, unlink_kept, version_kept}

@@ -1,27 +1,27 @@
 -- What an event keeps of names: its first effect, then the house rules, and flags that are raised
 -- behind them. Intentions that end and begin leave names.
 use Rattle.std.proofs.Common.{ℕ, ◌≡◌, true, Option, drop, length, sym, subst}
-use Rattle.pg_run.specs.pg_base.declared.id.FileId.{FileId}
-use Rattle.pg_run.specs.pg_register.declared.flag.Flag.{Flag}
-use Rattle.pg_run.specs.pg_msg.declared.work.Work.{Work}
-use Rattle.pg_run.specs.pg_msg.Work.{new_work}
-use Rattle.pg_run.specs.pg_call.declared.reply.Reply.{Reply}
-use Rattle.pg_run.specs.pg_house.House.{house}
-use Rattle.pg_run.specs.pg_house.Work.{state_of}
-use Rattle.pg_run.specs.pg_msg.declared.message.Packet.{Packet}
-use Rattle.pg_run.specs.pg_names.Names.{NamesValue, join_flag}
-use Rattle.pg_run.specs.pg_store.declared.store.Store.{Store}
-use Rattle.pg_run.specs.pg_store.Store.{is_newer_flag, put_flag, with_names}
-use Rattle.pg_run.specs.pg_pieces.Done.{Done, idle}
-use Rattle.pg_run.specs.pg_pieces.Making.{own_next, raise_flag}
-use Rattle.pg_run.specs.pg_cells.Settling.{rules}
-use Rattle.pg_run.proofs.pg_cells.Settled.{settle_keeps}
-use Rattle.pg_run.proofs.pg_intentions.Steady.{begin_end_stays}
-use Rattle.pg_run.specs.pg_server.declared.input.Input.{Input}
-use Rattle.pg_run.specs.pg_server.declared.input.Input.TheVariants as input
-use Rattle.pg_run.specs.pg_server.Local.{Effect, closed, effect, finished, first_effect, is_heard, receive, reply_to, settled, takes_effect}
-use Rattle.pg_run.proofs.theory_flood_pieces.Choices.{chosen, decided}
-use Rattle.pg_run.proofs.theory_flood_pieces.Touching.{same_names}
+use Rattle.law_frame.specs.pg_run.pg_base.declared.id.FileId.{FileId}
+use Rattle.law_frame.specs.pg_run.pg_register.declared.flag.Flag.{Flag}
+use Rattle.law_frame.specs.pg_run.pg_msg.declared.work.Work.{Work}
+use Rattle.law_frame.specs.pg_run.pg_msg.Work.{new_work}
+use Rattle.law_frame.specs.pg_run.pg_call.declared.reply.Reply.{Reply}
+use Rattle.law_frame.specs.pg_run.pg_house.House.{house}
+use Rattle.law_frame.specs.pg_run.pg_house.Work.{state_of}
+use Rattle.law_frame.specs.pg_run.pg_msg.declared.message.Packet.{Packet}
+use Rattle.law_frame.specs.pg_run.pg_names.Names.{NamesValue, join_flag}
+use Rattle.law_frame.specs.pg_run.pg_store.declared.store.Store.{Store}
+use Rattle.law_frame.specs.pg_run.pg_store.Store.{is_newer_flag, put_flag, with_names}
+use Rattle.law_frame.specs.pg_run.pg_pieces.Done.{Done, idle}
+use Rattle.law_frame.specs.pg_run.pg_pieces.Making.{own_next, raise_flag}
+use Rattle.law_frame.specs.pg_run.pg_cells.Settling.{rules}
+use Rattle.law_frame.proofs.pg_run.pg_cells.Settled.{settle_keeps}
+use Rattle.law_frame.proofs.pg_run.pg_intentions.Steady.{begin_end_stays}
+use Rattle.law_frame.specs.pg_run.pg_server.declared.input.Input.{Input}
+use Rattle.law_frame.specs.pg_run.pg_server.declared.input.Input.TheVariants as input
+use Rattle.law_frame.specs.pg_run.pg_server.Local.{Effect, closed, effect, finished, first_effect, is_heard, receive, reply_to, settled, takes_effect}
+use Rattle.law_frame.proofs.pg_run.theory_flood_pieces.Choices.{chosen, decided}
+use Rattle.law_frame.proofs.pg_run.theory_flood_pieces.Touching.{same_names}
 
 -- what the house rules keep, and a flag that comes, all of it keeps that stands behind the first
 -- effect

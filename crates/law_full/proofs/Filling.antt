@@ -4,60 +4,60 @@ use Rattle.std.proofs.Common.{ℕ, ◌≡◌, ◌≤◌, Bool, true, false, List
 use Rattle.std.specs.List.{IsAmong}
 use Rattle.std.proofs.lemmas.Bool.{false≢true}
 use Rattle.std.proofs.lemmas.List.Elements.{All-append, All-contains, All-nil, All-weaker}
-use Rattle.pg_run.specs.pg_base.declared.id.FileId.{FileId}
-use Rattle.pg_run.specs.pg_base.declared.stamp.Stamp.{Stamp}
-use Rattle.pg_run.specs.pg_base.Id.{is_same_file}
-use Rattle.pg_run.proofs.pg_base.Orders.{is_same_file-true}
-use Rattle.pg_run.specs.pg_edges.declared.edge.Edge.{Edge}
-use Rattle.pg_run.specs.pg_edges.declared.key.Key.{Key}
-use Rattle.pg_run.specs.pg_edges.declared.key.Key.TheVariants as key
-use Rattle.pg_run.specs.pg_edges.Keys.{tag_in}
-use Rattle.pg_run.specs.pg_entries.declared.cell.Cell.{Cell}
-use Rattle.pg_run.specs.pg_entries.declared.cell.Cell.TheVariants as cell
-use Rattle.pg_run.specs.pg_entries.declared.entry.Entry.{Entry}
-use Rattle.pg_run.specs.pg_event.declared.event.Event.{Event}
-use Rattle.pg_run.specs.theory_flood.World.{after}
-use Rattle.pg_run.proofs.theory_flood.Flood.{here}
-use Rattle.pg_run.specs.pg_intent.declared.intent.Intent.{Intent}
-use Rattle.pg_run.specs.pg_intent.declared.key.IntentKey.{IntentKey}
-use Rattle.pg_run.specs.pg_intent.Intents.{intent_at}
-use Rattle.pg_run.specs.pg_msg.declared.message.Ends.{Ends}
-use Rattle.pg_run.specs.pg_msg.declared.message.Granted.{Granted}
-use Rattle.pg_run.specs.pg_msg.declared.message.Message.{Message}
-use Rattle.pg_run.specs.pg_msg.declared.message.Message.TheVariants as message
-use Rattle.pg_run.specs.pg_msg.declared.message.Packet.{Packet}
-use Rattle.pg_run.specs.pg_msg.declared.message.Sent.{Sent}
-use Rattle.pg_run.specs.pg_msg.declared.work.Work.{Work}
-use Rattle.pg_run.specs.pg_msg.Work.{new_work}
-use Rattle.pg_run.specs.pg_names.Names.{is_full_of, new_names, own_or_blank}
-use Rattle.pg_run.proofs.pg_names.Holding.{begun_other}
-use Rattle.pg_run.specs.pg_register.Place.{root}
-use Rattle.pg_run.specs.pg_replica.declared.replica.Replica.{Replica}
-use Rattle.pg_run.proofs.pg_calls.Walked.{full_held}
-use Rattle.pg_run.specs.pg_store.declared.store.Store.{Store}
-use Rattle.pg_run.specs.pg_store.Cells.{cell_at}
-use Rattle.pg_run.specs.pg_store.Links.{is_clean, is_new_link, link}
-use Rattle.pg_run.specs.pg_store.Start.{root_own}
-use Rattle.pg_run.specs.pg_store.Store.{is_full, new_store, replica_at}
-use Rattle.pg_run.specs.pg_store.Births.{has_birth}
-use Rattle.pg_run.specs.pg_store.Together.{BirthsMove, IsOver, birth_at}
-use Rattle.pg_run.proofs.pg_store.Over.{moves_then, over_stays}
-use Rattle.pg_run.specs.pg_pieces.Accepting.{with_link}
-use Rattle.pg_run.specs.pg_intentions.Intending.{pieces}
-use Rattle.pg_run.specs.pg_intentions.Requests.{asks}
-use Rattle.pg_run.specs.theory_flood_pieces.Growing.{Grows}
-use Rattle.pg_run.specs.Acknowledged.{AcknowledgedKeysAreHad, IsHadThere}
-use Rattle.pg_run.specs.Births.{BirthsMoveInEvents}
-use Rattle.pg_run.specs.Grown.{EventsGrow}
-use Rattle.pg_run.specs.Journal.{mail}
-use Rattle.pg_run.specs.Known.{CarriedIsKnown, PlacesHaveOwnStamps}
-use Rattle.pg_run.specs.Laws.{AtEach, TakesIn}
-use Rattle.pg_run.specs.Run.{World, effect_step, next, run, start, world_after}
-use Rattle.pg_run.proofs.Frame.{HasCome}
-use Rattle.pg_run.proofs.Ticked.{tick_store}
-use Rattle.pg_run.specs.pg_server.declared.input.Input.{Input}
-use Rattle.pg_run.specs.pg_server.declared.input.Input.TheVariants as input
-use Rattle.pg_run.specs.pg_server.Local.{effect, first_effect}
+use Rattle.law_frame.specs.pg_run.pg_base.declared.id.FileId.{FileId}
+use Rattle.law_frame.specs.pg_run.pg_base.declared.stamp.Stamp.{Stamp}
+use Rattle.law_frame.specs.pg_run.pg_base.Id.{is_same_file}
+use Rattle.law_frame.proofs.pg_run.pg_base.Orders.{is_same_file-true}
+use Rattle.law_frame.specs.pg_run.pg_edges.declared.edge.Edge.{Edge}
+use Rattle.law_frame.specs.pg_run.pg_edges.declared.key.Key.{Key}
+use Rattle.law_frame.specs.pg_run.pg_edges.declared.key.Key.TheVariants as key
+use Rattle.law_frame.specs.pg_run.pg_edges.Keys.{tag_in}
+use Rattle.law_frame.specs.pg_run.pg_entries.declared.cell.Cell.{Cell}
+use Rattle.law_frame.specs.pg_run.pg_entries.declared.cell.Cell.TheVariants as cell
+use Rattle.law_frame.specs.pg_run.pg_entries.declared.entry.Entry.{Entry}
+use Rattle.law_frame.specs.pg_run.pg_event.declared.event.Event.{Event}
+use Rattle.law_frame.specs.pg_run.theory_flood.World.{after}
+use Rattle.law_frame.proofs.pg_run.theory_flood.Flood.{here}
+use Rattle.law_frame.specs.pg_run.pg_intent.declared.intent.Intent.{Intent}
+use Rattle.law_frame.specs.pg_run.pg_intent.declared.key.IntentKey.{IntentKey}
+use Rattle.law_frame.specs.pg_run.pg_intent.Intents.{intent_at}
+use Rattle.law_frame.specs.pg_run.pg_msg.declared.message.Ends.{Ends}
+use Rattle.law_frame.specs.pg_run.pg_msg.declared.message.Granted.{Granted}
+use Rattle.law_frame.specs.pg_run.pg_msg.declared.message.Message.{Message}
+use Rattle.law_frame.specs.pg_run.pg_msg.declared.message.Message.TheVariants as message
+use Rattle.law_frame.specs.pg_run.pg_msg.declared.message.Packet.{Packet}
+use Rattle.law_frame.specs.pg_run.pg_msg.declared.message.Sent.{Sent}
+use Rattle.law_frame.specs.pg_run.pg_msg.declared.work.Work.{Work}
+use Rattle.law_frame.specs.pg_run.pg_msg.Work.{new_work}
+use Rattle.law_frame.specs.pg_run.pg_names.Names.{is_full_of, new_names, own_or_blank}
+use Rattle.law_frame.proofs.pg_run.pg_names.Holding.{begun_other}
+use Rattle.law_frame.specs.pg_run.pg_register.Place.{root}
+use Rattle.law_frame.specs.pg_run.pg_replica.declared.replica.Replica.{Replica}
+use Rattle.law_frame.proofs.pg_run.pg_calls.Walked.{full_held}
+use Rattle.law_frame.specs.pg_run.pg_store.declared.store.Store.{Store}
+use Rattle.law_frame.specs.pg_run.pg_store.Cells.{cell_at}
+use Rattle.law_frame.specs.pg_run.pg_store.Links.{is_clean, is_new_link, link}
+use Rattle.law_frame.specs.pg_run.pg_store.Start.{root_own}
+use Rattle.law_frame.specs.pg_run.pg_store.Store.{is_full, new_store, replica_at}
+use Rattle.law_frame.specs.pg_run.pg_store.Births.{has_birth}
+use Rattle.law_frame.specs.pg_run.pg_store.Together.{BirthsMove, IsOver, birth_at}
+use Rattle.law_frame.proofs.pg_run.pg_store.Over.{moves_then, over_stays}
+use Rattle.law_frame.specs.pg_run.pg_pieces.Accepting.{with_link}
+use Rattle.law_frame.specs.pg_run.pg_intentions.Intending.{pieces}
+use Rattle.law_frame.specs.pg_run.pg_intentions.Requests.{asks}
+use Rattle.law_frame.specs.pg_run.theory_flood_pieces.Growing.{Grows}
+use Rattle.law_frame.specs.pg_run.Acknowledged.{AcknowledgedKeysAreHad, IsHadThere}
+use Rattle.law_frame.specs.pg_run.Births.{BirthsMoveInEvents}
+use Rattle.law_frame.specs.pg_run.Grown.{EventsGrow}
+use Rattle.law_frame.specs.pg_run.Journal.{mail}
+use Rattle.law_frame.specs.pg_run.Known.{CarriedIsKnown, PlacesHaveOwnStamps}
+use Rattle.law_frame.specs.pg_run.Laws.{AtEach, TakesIn}
+use Rattle.law_frame.specs.pg_run.Run.{World, effect_step, next, run, start, world_after}
+use Rattle.law_frame.proofs.pg_run.Frame.{HasCome}
+use Rattle.law_frame.proofs.pg_run.Ticked.{tick_store}
+use Rattle.law_frame.specs.pg_run.pg_server.declared.input.Input.{Input}
+use Rattle.law_frame.specs.pg_run.pg_server.declared.input.Input.TheVariants as input
+use Rattle.law_frame.specs.pg_run.pg_server.Local.{effect, first_effect}
 use Rattle.law_full.specs.Filled.{ArePlaced, FullPlaced, FullSays, IsFilled, IsPlaced, SaysFull}
 use Rattle.law_full.proofs.Acting.{next_by, runs_keep}
 use Rattle.law_full.proofs.Calling.{call_kept}

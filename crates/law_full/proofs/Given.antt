@@ -2,37 +2,37 @@
 use Rattle.std.proofs.Common.{ℕ, ◌≡◌, Bool, true, false, cond, [], Option, None, Some, Ok, is_some, refl, sym, ap, subst, ◌∙◌, inr}
 use Rattle.std.proofs.lemmas.Bool.{false≢true}
 use Rattle.std.proofs.lemmas.Option.{none-some, same_Some}
-use Rattle.pg_run.specs.pg_base.declared.id.FileId.{FileId}
-use Rattle.pg_run.specs.pg_base.declared.id.Kind.{Kind}
-use Rattle.pg_run.specs.pg_base.declared.policy.Policy.{Policy}
-use Rattle.pg_run.specs.pg_base.declared.policy.Policy.TheVariants.{Last}
-use Rattle.pg_run.specs.pg_base.Id.{is_same_file}
-use Rattle.pg_run.proofs.pg_base.Orders.{is_same_file-refl, is_same_file-true}
-use Rattle.pg_run.specs.pg_call.declared.refusal.Refusal.TheVariants.{Held, Root}
-use Rattle.pg_run.specs.pg_register.declared.place.Place.{Place}
-use Rattle.pg_run.specs.pg_register.Place.{root}
-use Rattle.pg_run.specs.pg_entries.declared.entry.Entry.{Entry}
-use Rattle.pg_run.specs.pg_msg.declared.work.Work.{Work}
-use Rattle.pg_run.specs.pg_names.declared.attributes.Attributes.{Attributes}
-use Rattle.pg_run.specs.pg_names.Names.{InodeValue, NamesValue, begin as begin_names, blank_own, cell_at, is_dir, known, new_held, own_of, own_or_blank}
-use Rattle.pg_run.proofs.pg_names.Holding.{begun_known}
-use Rattle.pg_run.specs.pg_house.Returning.{is_root}
-use Rattle.pg_run.specs.pg_store.declared.store.Store.{Store}
-use Rattle.pg_run.specs.pg_store.Beginning.{begin, patches_of, put_new}
-use Rattle.pg_run.specs.pg_store.Births.{draw_birth, with_birth}
-use Rattle.pg_run.specs.pg_store.Store.{is_full, is_held, take_place}
-use Rattle.pg_run.specs.pg_pieces.Done.{Done, idle}
-use Rattle.pg_run.specs.pg_pieces.Making.{own_next}
-use Rattle.pg_run.specs.pg_checks.declared.checks.NewName.{NewName}
-use Rattle.pg_run.specs.pg_checks.Asking.{latest}
-use Rattle.pg_run.specs.pg_checks.Checks.{in_time}
-use Rattle.pg_run.specs.pg_calls.Forgetting.{begin_lost, begun_at, begun_with, dirs_of, fill_lost, forget_lost, has_blank_place, is_wanted, last_place, lost_at, place_in as place_in_dir, place_of, placed_in_root, placed_lost, root_place, strike_out, unfilled, unless_full}
-use Rattle.pg_run.specs.pg_calls.Demoting.{unless_root}
-use Rattle.pg_run.specs.pg_calls.Naming.{begun, next_id, place_in, raised, with_id, with_thing}
-use Rattle.pg_run.proofs.pg_calls.Checked.{behind, unless_ok}
-use Rattle.pg_run.specs.pg_lookup.Walk.{and_then}
-use Rattle.pg_run.proofs.theory_flood_pieces.Choices.{chosen, decided}
-use Rattle.pg_run.proofs.theory_flood_pieces.Together.{own_of_held}
+use Rattle.law_frame.specs.pg_run.pg_base.declared.id.FileId.{FileId}
+use Rattle.law_frame.specs.pg_run.pg_base.declared.id.Kind.{Kind}
+use Rattle.law_frame.specs.pg_run.pg_base.declared.policy.Policy.{Policy}
+use Rattle.law_frame.specs.pg_run.pg_base.declared.policy.Policy.TheVariants.{Last}
+use Rattle.law_frame.specs.pg_run.pg_base.Id.{is_same_file}
+use Rattle.law_frame.proofs.pg_run.pg_base.Orders.{is_same_file-refl, is_same_file-true}
+use Rattle.law_frame.specs.pg_run.pg_call.declared.refusal.Refusal.TheVariants.{Held, Root}
+use Rattle.law_frame.specs.pg_run.pg_register.declared.place.Place.{Place}
+use Rattle.law_frame.specs.pg_run.pg_register.Place.{root}
+use Rattle.law_frame.specs.pg_run.pg_entries.declared.entry.Entry.{Entry}
+use Rattle.law_frame.specs.pg_run.pg_msg.declared.work.Work.{Work}
+use Rattle.law_frame.specs.pg_run.pg_names.declared.attributes.Attributes.{Attributes}
+use Rattle.law_frame.specs.pg_run.pg_names.Names.{InodeValue, NamesValue, begin as begin_names, blank_own, cell_at, is_dir, known, new_held, own_of, own_or_blank}
+use Rattle.law_frame.proofs.pg_run.pg_names.Holding.{begun_known}
+use Rattle.law_frame.specs.pg_run.pg_house.Returning.{is_root}
+use Rattle.law_frame.specs.pg_run.pg_store.declared.store.Store.{Store}
+use Rattle.law_frame.specs.pg_run.pg_store.Beginning.{begin, patches_of, put_new}
+use Rattle.law_frame.specs.pg_run.pg_store.Births.{draw_birth, with_birth}
+use Rattle.law_frame.specs.pg_run.pg_store.Store.{is_full, is_held, take_place}
+use Rattle.law_frame.specs.pg_run.pg_pieces.Done.{Done, idle}
+use Rattle.law_frame.specs.pg_run.pg_pieces.Making.{own_next}
+use Rattle.law_frame.specs.pg_run.pg_checks.declared.checks.NewName.{NewName}
+use Rattle.law_frame.specs.pg_run.pg_checks.Asking.{latest}
+use Rattle.law_frame.specs.pg_run.pg_checks.Checks.{in_time}
+use Rattle.law_frame.specs.pg_run.pg_calls.Forgetting.{begin_lost, begun_at, begun_with, dirs_of, fill_lost, forget_lost, has_blank_place, is_wanted, last_place, lost_at, place_in as place_in_dir, place_of, placed_in_root, placed_lost, root_place, strike_out, unfilled, unless_full}
+use Rattle.law_frame.specs.pg_run.pg_calls.Demoting.{unless_root}
+use Rattle.law_frame.specs.pg_run.pg_calls.Naming.{begun, next_id, place_in, raised, with_id, with_thing}
+use Rattle.law_frame.proofs.pg_run.pg_calls.Checked.{behind, unless_ok}
+use Rattle.law_frame.specs.pg_run.pg_lookup.Walk.{and_then}
+use Rattle.law_frame.proofs.pg_run.theory_flood_pieces.Choices.{chosen, decided}
+use Rattle.law_frame.proofs.pg_run.theory_flood_pieces.Together.{own_of_held}
 use Rattle.law_full.specs.Filled.{IsLate, IsPlaced}
 use Rattle.law_full.proofs.Calling.{CallsKeep}
 use Rattle.law_full.proofs.HousePlaces.{drawn_some}

@@ -4,36 +4,36 @@ use Rattle.std.proofs.Common.{ℕ, ◌≡◌, ◌≤◌, ◌+◌, ◌^◌, Bool,
 use Rattle.std.proofs.lemmas.Bool.Decides.{nat_tests}
 use Rattle.std.proofs.lemmas.List.Elements.{All-append, All-cons, All-nil}
 use Rattle.std.proofs.lemmas.Option.{none-some}
-use Rattle.pg_run.specs.pg_base.declared.id.FileId.{FileId}
-use Rattle.pg_run.specs.pg_base.declared.stamp.Stamp.{Stamp}
-use Rattle.pg_run.specs.pg_base.Id.{is_same_file}
-use Rattle.pg_run.specs.pg_base.Stamp.{is_before}
-use Rattle.pg_run.proofs.pg_base.Orders.{is_same_file-true}
-use Rattle.pg_run.specs.pg_register.declared.place.Place.{Place}
-use Rattle.pg_run.specs.pg_register.Place.{newer_place, root, tilde_name}
-use Rattle.pg_run.specs.pg_entries.declared.entry.Entry.{Entry}
-use Rattle.pg_run.specs.pg_edges.declared.key.Key.TheVariants as key
-use Rattle.pg_run.specs.pg_msg.declared.update.Update.{Update}
-use Rattle.pg_run.specs.pg_msg.declared.update.Update.TheVariants as update
-use Rattle.pg_run.specs.pg_msg.Work.{with_made, with_touched}
-use Rattle.pg_run.specs.pg_names.declared.attributes.Attributes.{Attributes}
-use Rattle.pg_run.specs.pg_names.Names.{NamesValue, cell_at, directories, known, or_blank, own_at, own_or_blank, with_last, with_own}
-use Rattle.pg_run.proofs.pg_names.Lookups.{own_other, own_same, update_frame}
-use Rattle.pg_run.specs.pg_house.Cycles.{break_first, first_moving, moved}
-use Rattle.pg_run.specs.pg_house.Facts.{IsHeld}
-use Rattle.pg_run.specs.pg_house.House.{house, movable}
-use Rattle.pg_run.specs.pg_house.Passing.{greatest, is_held_back, joined_with, own_taken, pass, pass_all, pass_own, passed}
-use Rattle.pg_run.specs.pg_house.Placing.{drawn, live_place, made_at, own_with, place_at, placed}
-use Rattle.pg_run.specs.pg_house.Returning.{first_returning, is_returning, return_first, returned}
-use Rattle.pg_run.specs.pg_house.Work.{State}
-use Rattle.pg_run.proofs.pg_house.AfterPassing.{after_frame, after_other, after_own}
-use Rattle.pg_run.proofs.pg_house.AllClimb.{IsDeep, member_deep, moving_member}
-use Rattle.pg_run.proofs.pg_house.AllReturned.{returning_by}
-use Rattle.pg_run.proofs.pg_house.Counting.{find_found}
-use Rattle.pg_run.proofs.pg_house.Made.{left_made, pass_made}
-use Rattle.pg_run.proofs.pg_house.NoCycles.{inner_parts, some_dirs}
-use Rattle.pg_run.proofs.pg_house.Repeating.{repeated_keeps}
-use Rattle.pg_run.proofs.pg_house.Truths.{chosen_false, chosen_true}
+use Rattle.law_frame.specs.pg_run.pg_base.declared.id.FileId.{FileId}
+use Rattle.law_frame.specs.pg_run.pg_base.declared.stamp.Stamp.{Stamp}
+use Rattle.law_frame.specs.pg_run.pg_base.Id.{is_same_file}
+use Rattle.law_frame.specs.pg_run.pg_base.Stamp.{is_before}
+use Rattle.law_frame.proofs.pg_run.pg_base.Orders.{is_same_file-true}
+use Rattle.law_frame.specs.pg_run.pg_register.declared.place.Place.{Place}
+use Rattle.law_frame.specs.pg_run.pg_register.Place.{newer_place, root, tilde_name}
+use Rattle.law_frame.specs.pg_run.pg_entries.declared.entry.Entry.{Entry}
+use Rattle.law_frame.specs.pg_run.pg_edges.declared.key.Key.TheVariants as key
+use Rattle.law_frame.specs.pg_run.pg_msg.declared.update.Update.{Update}
+use Rattle.law_frame.specs.pg_run.pg_msg.declared.update.Update.TheVariants as update
+use Rattle.law_frame.specs.pg_run.pg_msg.Work.{with_made, with_touched}
+use Rattle.law_frame.specs.pg_run.pg_names.declared.attributes.Attributes.{Attributes}
+use Rattle.law_frame.specs.pg_run.pg_names.Names.{NamesValue, cell_at, directories, known, or_blank, own_at, own_or_blank, with_last, with_own}
+use Rattle.law_frame.proofs.pg_run.pg_names.Lookups.{own_other, own_same, update_frame}
+use Rattle.law_frame.specs.pg_run.pg_house.Cycles.{break_first, first_moving, moved}
+use Rattle.law_frame.specs.pg_run.pg_house.Facts.{IsHeld}
+use Rattle.law_frame.specs.pg_run.pg_house.House.{house, movable}
+use Rattle.law_frame.specs.pg_run.pg_house.Passing.{greatest, is_held_back, joined_with, own_taken, pass, pass_all, pass_own, passed}
+use Rattle.law_frame.specs.pg_run.pg_house.Placing.{drawn, live_place, made_at, own_with, place_at, placed}
+use Rattle.law_frame.specs.pg_run.pg_house.Returning.{first_returning, is_returning, return_first, returned}
+use Rattle.law_frame.specs.pg_run.pg_house.Work.{State}
+use Rattle.law_frame.proofs.pg_run.pg_house.AfterPassing.{after_frame, after_other, after_own}
+use Rattle.law_frame.proofs.pg_run.pg_house.AllClimb.{IsDeep, member_deep, moving_member}
+use Rattle.law_frame.proofs.pg_run.pg_house.AllReturned.{returning_by}
+use Rattle.law_frame.proofs.pg_run.pg_house.Counting.{find_found}
+use Rattle.law_frame.proofs.pg_run.pg_house.Made.{left_made, pass_made}
+use Rattle.law_frame.proofs.pg_run.pg_house.NoCycles.{inner_parts, some_dirs}
+use Rattle.law_frame.proofs.pg_run.pg_house.Repeating.{repeated_keeps}
+use Rattle.law_frame.proofs.pg_run.pg_house.Truths.{chosen_false, chosen_true}
 
 -- ---- the greatest is later
 

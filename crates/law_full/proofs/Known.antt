@@ -2,31 +2,31 @@
 use Rattle.std.proofs.Common.{ℕ, ◌≡◌, Bool, true, false, cond, List, Option, None, Some, refl, sym, ap, subst, ◌∙◌, inl}
 use Rattle.std.proofs.lemmas.Bool.{false≢true}
 use Rattle.std.proofs.lemmas.Option.{none-some, same_Some}
-use Rattle.pg_run.specs.pg_base.declared.id.FileId.{FileId}
-use Rattle.pg_run.specs.pg_base.Id.{is_same_file}
-use Rattle.pg_run.specs.pg_base.Stamp.{is_before}
-use Rattle.pg_run.specs.pg_base.Version.{VersionValue}
-use Rattle.pg_run.specs.pg_edges.declared.key.Key.{Key}
-use Rattle.pg_run.specs.pg_edges.declared.key.Key.TheVariants as key
-use Rattle.pg_run.specs.pg_entries.declared.cell.Cell.{Cell}
-use Rattle.pg_run.specs.pg_entries.declared.cell.Cell.TheVariants as cell
-use Rattle.pg_run.specs.pg_entries.declared.entry.Entry.{Entry}
-use Rattle.pg_run.specs.pg_event.declared.event.Event.{Event}
-use Rattle.pg_run.specs.theory_flood.Server.{Holds}
-use Rattle.pg_run.specs.pg_names.Names.{cell_at as entry_at, own_or_blank}
-use Rattle.pg_run.specs.pg_register.declared.flag.Flag.{Flag}
-use Rattle.pg_run.specs.pg_register.declared.place.Place.{Place}
-use Rattle.pg_run.specs.pg_register.Flag.{flag_of}
-use Rattle.pg_run.specs.pg_register.Place.{blank_place, first_stamp, root, root_place}
-use Rattle.pg_run.specs.pg_replica.Replica.{cell_at as head_at}
-use Rattle.pg_run.specs.pg_store.declared.store.Store.{Store}
-use Rattle.pg_run.specs.pg_store.Cells.{cell_at, entry_cell, flag_cell, is_sure, version_cell}
-use Rattle.pg_run.specs.pg_store.Store.{content_of}
-use Rattle.pg_run.specs.theory_flood_pieces.UpTo.{IsPlaceUpTo, IsUpTo}
-use Rattle.pg_run.specs.Known.{CarriedIsKnown, IsPlaceOf, PlacesHaveOwnStamps}
-use Rattle.pg_run.specs.Laws.{AtEach}
-use Rattle.pg_run.specs.Run.{run}
-use Rattle.pg_run.specs.Took.{first_place}
+use Rattle.law_frame.specs.pg_run.pg_base.declared.id.FileId.{FileId}
+use Rattle.law_frame.specs.pg_run.pg_base.Id.{is_same_file}
+use Rattle.law_frame.specs.pg_run.pg_base.Stamp.{is_before}
+use Rattle.law_frame.specs.pg_run.pg_base.Version.{VersionValue}
+use Rattle.law_frame.specs.pg_run.pg_edges.declared.key.Key.{Key}
+use Rattle.law_frame.specs.pg_run.pg_edges.declared.key.Key.TheVariants as key
+use Rattle.law_frame.specs.pg_run.pg_entries.declared.cell.Cell.{Cell}
+use Rattle.law_frame.specs.pg_run.pg_entries.declared.cell.Cell.TheVariants as cell
+use Rattle.law_frame.specs.pg_run.pg_entries.declared.entry.Entry.{Entry}
+use Rattle.law_frame.specs.pg_run.pg_event.declared.event.Event.{Event}
+use Rattle.law_frame.specs.pg_run.theory_flood.Server.{Holds}
+use Rattle.law_frame.specs.pg_run.pg_names.Names.{cell_at as entry_at, own_or_blank}
+use Rattle.law_frame.specs.pg_run.pg_register.declared.flag.Flag.{Flag}
+use Rattle.law_frame.specs.pg_run.pg_register.declared.place.Place.{Place}
+use Rattle.law_frame.specs.pg_run.pg_register.Flag.{flag_of}
+use Rattle.law_frame.specs.pg_run.pg_register.Place.{blank_place, first_stamp, root, root_place}
+use Rattle.law_frame.specs.pg_run.pg_replica.Replica.{cell_at as head_at}
+use Rattle.law_frame.specs.pg_run.pg_store.declared.store.Store.{Store}
+use Rattle.law_frame.specs.pg_run.pg_store.Cells.{cell_at, entry_cell, flag_cell, is_sure, version_cell}
+use Rattle.law_frame.specs.pg_run.pg_store.Store.{content_of}
+use Rattle.law_frame.specs.pg_run.theory_flood_pieces.UpTo.{IsPlaceUpTo, IsUpTo}
+use Rattle.law_frame.specs.pg_run.Known.{CarriedIsKnown, IsPlaceOf, PlacesHaveOwnStamps}
+use Rattle.law_frame.specs.pg_run.Laws.{AtEach}
+use Rattle.law_frame.specs.pg_run.Run.{run}
+use Rattle.law_frame.specs.pg_run.Took.{first_place}
 use Rattle.law_full.proofs.Given.{ListsLate}
 use Rattle.law_full.proofs.Placed.{first_is}
 

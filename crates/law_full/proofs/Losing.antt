@@ -2,22 +2,22 @@
 -- a directory that begins anew.
 use Rattle.std.proofs.Common.{ℕ, ◌≡◌, Bool, true, cond, List, [], ◌∷◌, Option, None, Some, refl}
 use Rattle.std.specs.Prelude.{nat_lt}
-use Rattle.pg_run.specs.pg_base.declared.id.FileId.{FileId}
-use Rattle.pg_run.specs.pg_base.declared.policy.Policy.TheVariants.{Last}
-use Rattle.pg_run.specs.pg_register.declared.place.Place.{Place}
-use Rattle.pg_run.specs.pg_msg.declared.work.Work.{Work}
-use Rattle.pg_run.specs.pg_names.declared.attributes.Attributes.{Attributes}
-use Rattle.pg_run.specs.pg_names.Names.{NamesValue, blank_own, is_dir}
-use Rattle.pg_run.specs.pg_names.Names as names
-use Rattle.pg_run.specs.pg_store.declared.store.Store.{Store}
-use Rattle.pg_run.specs.pg_store.Births.{draw_birth, with_birth}
-use Rattle.pg_run.specs.pg_store.Store.{is_held, take_entry, with_names}
-use Rattle.pg_run.specs.pg_pieces.Done.{Done, idle}
-use Rattle.pg_run.specs.pg_pieces.Making.{own_next, raise_flag}
-use Rattle.pg_run.specs.pg_repair.Filling.{fill, few_golds, live_golds, raise_if_few}
-use Rattle.pg_run.specs.pg_calls.Forgetting.{bare_entry, begin_lost, begun_at, begun_with, dead_at, dirs_of, fill_lost, forget_lost, has_blank_place, is_wanted, last_listing, last_place, marked_each, placed_in_root, placed_lost, root_place, strike_out, struck_out, unfilled, unwished}
-use Rattle.pg_run.specs.pg_calls.Naming.{raised}
-use Rattle.pg_run.proofs.theory_flood_pieces.Choices.{chosen}
+use Rattle.law_frame.specs.pg_run.pg_base.declared.id.FileId.{FileId}
+use Rattle.law_frame.specs.pg_run.pg_base.declared.policy.Policy.TheVariants.{Last}
+use Rattle.law_frame.specs.pg_run.pg_register.declared.place.Place.{Place}
+use Rattle.law_frame.specs.pg_run.pg_msg.declared.work.Work.{Work}
+use Rattle.law_frame.specs.pg_run.pg_names.declared.attributes.Attributes.{Attributes}
+use Rattle.law_frame.specs.pg_run.pg_names.Names.{NamesValue, blank_own, is_dir}
+use Rattle.law_frame.specs.pg_run.pg_names.Names as names
+use Rattle.law_frame.specs.pg_run.pg_store.declared.store.Store.{Store}
+use Rattle.law_frame.specs.pg_run.pg_store.Births.{draw_birth, with_birth}
+use Rattle.law_frame.specs.pg_run.pg_store.Store.{is_held, take_entry, with_names}
+use Rattle.law_frame.specs.pg_run.pg_pieces.Done.{Done, idle}
+use Rattle.law_frame.specs.pg_run.pg_pieces.Making.{own_next, raise_flag}
+use Rattle.law_frame.specs.pg_run.pg_repair.Filling.{fill, few_golds, live_golds, raise_if_few}
+use Rattle.law_frame.specs.pg_run.pg_calls.Forgetting.{bare_entry, begin_lost, begun_at, begun_with, dead_at, dirs_of, fill_lost, forget_lost, has_blank_place, is_wanted, last_listing, last_place, marked_each, placed_in_root, placed_lost, root_place, strike_out, struck_out, unfilled, unwished}
+use Rattle.law_frame.specs.pg_run.pg_calls.Naming.{raised}
+use Rattle.law_frame.proofs.pg_run.theory_flood_pieces.Choices.{chosen}
 use Rattle.law_full.proofs.Pieces.{AreKept, begin_kept, entry_kept, flag_kept, place_kept}
 
 -- what a forget of a thing may bring: places in the root, a full replica with the place that the

@@ -4,31 +4,31 @@ use Rattle.std.proofs.Common.{ℕ, ◌≡◌, ◌≤◌, ◌==◌, ◌&&◌, ◌
 use Rattle.std.specs.Prelude.{nat_lt}
 use Rattle.std.proofs.lemmas.Bool.{false≢true}
 use Rattle.std.proofs.lemmas.Bool.Decides.{nat_tests}
-use Rattle.pg_run.specs.pg_base.declared.id.FileId.{FileId}
-use Rattle.pg_run.specs.pg_base.declared.stamp.Stamp.{Stamp}
-use Rattle.pg_run.specs.pg_base.Id.{is_same_file}
-use Rattle.pg_run.specs.pg_base.Stamp.{UpTo, is_before}
-use Rattle.pg_run.proofs.pg_base.Orders.{is_before-false, is_same_file-true, stamp_of_parts}
-use Rattle.pg_run.specs.pg_register.declared.flag.Flag.{Flag}
-use Rattle.pg_run.specs.pg_register.declared.place.Place.{Place}
-use Rattle.pg_run.specs.pg_register.Place.{first_stamp, newer_place}
-use Rattle.pg_run.specs.pg_entries.declared.entry.Entry.{Entry}
-use Rattle.pg_run.specs.pg_msg.declared.update.Update.{Update}
-use Rattle.pg_run.specs.pg_msg.declared.work.Work.{Work}
-use Rattle.pg_run.specs.pg_names.declared.attributes.Attributes.{Attributes}
-use Rattle.pg_run.specs.pg_names.Same.{is_same_stamp}
-use Rattle.pg_run.specs.pg_names.Names.{InodeValue, NamesValue, begin as begin_names, fill, filled, is_full, is_full_of, is_held, is_place_new, let_go, join_entry, join_flag, join_place, known, new_held, or_blank, own_at, own_of, update, with_flag, with_joined, with_place}
-use Rattle.pg_run.proofs.pg_names.Holding.{begun_known, begun_other, fill_other, fill_own, full_kept}
-use Rattle.pg_run.proofs.pg_names.Gone.{gone_known}
-use Rattle.pg_run.proofs.pg_names.Lookups.{flag_other, flag_same, joined_own, known_absent, own_with_flag, own_with_place, place_other, place_same, update_frame}
-use Rattle.pg_run.specs.pg_house.House.{house}
-use Rattle.pg_run.specs.pg_house.Passing.{is_held_back}
-use Rattle.pg_run.specs.pg_house.Work.{state_of}
-use Rattle.pg_run.proofs.pg_house.Fullness.{rules_full}
-use Rattle.pg_run.specs.pg_store.declared.store.Store.{Store}
-use Rattle.pg_run.specs.pg_store.Store.{is_newer_place, put_place, take_place}
-use Rattle.pg_run.proofs.theory_flood_pieces.Choices.{chosen, decided}
-use Rattle.pg_run.proofs.theory_flood_pieces.Together.{held_by_keys}
+use Rattle.law_frame.specs.pg_run.pg_base.declared.id.FileId.{FileId}
+use Rattle.law_frame.specs.pg_run.pg_base.declared.stamp.Stamp.{Stamp}
+use Rattle.law_frame.specs.pg_run.pg_base.Id.{is_same_file}
+use Rattle.law_frame.specs.pg_run.pg_base.Stamp.{UpTo, is_before}
+use Rattle.law_frame.proofs.pg_run.pg_base.Orders.{is_before-false, is_same_file-true, stamp_of_parts}
+use Rattle.law_frame.specs.pg_run.pg_register.declared.flag.Flag.{Flag}
+use Rattle.law_frame.specs.pg_run.pg_register.declared.place.Place.{Place}
+use Rattle.law_frame.specs.pg_run.pg_register.Place.{first_stamp, newer_place}
+use Rattle.law_frame.specs.pg_run.pg_entries.declared.entry.Entry.{Entry}
+use Rattle.law_frame.specs.pg_run.pg_msg.declared.update.Update.{Update}
+use Rattle.law_frame.specs.pg_run.pg_msg.declared.work.Work.{Work}
+use Rattle.law_frame.specs.pg_run.pg_names.declared.attributes.Attributes.{Attributes}
+use Rattle.law_frame.specs.pg_run.pg_names.Same.{is_same_stamp}
+use Rattle.law_frame.specs.pg_run.pg_names.Names.{InodeValue, NamesValue, begin as begin_names, fill, filled, is_full, is_full_of, is_held, is_place_new, let_go, join_entry, join_flag, join_place, known, new_held, or_blank, own_at, own_of, update, with_flag, with_joined, with_place}
+use Rattle.law_frame.proofs.pg_run.pg_names.Holding.{begun_known, begun_other, fill_other, fill_own, full_kept}
+use Rattle.law_frame.proofs.pg_run.pg_names.Gone.{gone_known}
+use Rattle.law_frame.proofs.pg_run.pg_names.Lookups.{flag_other, flag_same, joined_own, known_absent, own_with_flag, own_with_place, place_other, place_same, update_frame}
+use Rattle.law_frame.specs.pg_run.pg_house.House.{house}
+use Rattle.law_frame.specs.pg_run.pg_house.Passing.{is_held_back}
+use Rattle.law_frame.specs.pg_run.pg_house.Work.{state_of}
+use Rattle.law_frame.proofs.pg_run.pg_house.Fullness.{rules_full}
+use Rattle.law_frame.specs.pg_run.pg_store.declared.store.Store.{Store}
+use Rattle.law_frame.specs.pg_run.pg_store.Store.{is_newer_place, put_place, take_place}
+use Rattle.law_frame.proofs.pg_run.theory_flood_pieces.Choices.{chosen, decided}
+use Rattle.law_frame.proofs.pg_run.theory_flood_pieces.Together.{held_by_keys}
 use Rattle.law_full.specs.Filled.{IsLate, IsPlaced}
 use Rattle.law_full.proofs.Effects.{RulesKeep}
 use Rattle.law_full.proofs.HousePlaces.{IsUp, StaysSo, before_further, house_stays, newer_up}

@@ -4,23 +4,23 @@ use Rattle.std.proofs.Common.{ℕ, ◌≡◌, ◌++◌, ◌∷◌, [], not, true
 use Rattle.std.specs.List.{flat_map}
 use Rattle.std.specs.Map.{keys_of}
 use Rattle.std.proofs.lemmas.List.{append-nil, append_assoc}
-use Rattle.pg_run.specs.pg_base.declared.id.FileId.{FileId}
-use Rattle.pg_run.specs.pg_edges.declared.edge.Edge.{Edge}
-use Rattle.pg_run.specs.pg_intent.declared.intent.Intent.{Intent}
-use Rattle.pg_run.specs.pg_intent.Intent.{key_of}
-use Rattle.pg_run.specs.pg_intent.Intents.{stands}
-use Rattle.pg_run.specs.pg_msg.declared.message.Message.{Message}
-use Rattle.pg_run.specs.pg_msg.declared.work.Work.{Work}
-use Rattle.pg_run.specs.pg_store.declared.store.Store.{Store}
-use Rattle.pg_run.specs.pg_pieces.Done.{Done}
-use Rattle.pg_run.specs.pg_pieces.Intending.{begin_intent}
-use Rattle.pg_run.specs.pg_pieces.Posting.{post, sent_to}
-use Rattle.pg_run.specs.pg_calls.GivingUp.{cells_of, doubt_all, enter_view}
-use Rattle.pg_run.specs.pg_intentions.Inviting.{invite_along, invite_each, invite_of, invites, loose_edge}
-use Rattle.pg_run.specs.pg_msg.declared.work.Slot.{Slot}
-use Rattle.pg_run.specs.pg_names.Names.{directories}
-use Rattle.pg_run.specs.pg_store.Views.{enter}
-use Rattle.pg_run.proofs.theory_flood_pieces.Choices.{chosen}
+use Rattle.law_frame.specs.pg_run.pg_base.declared.id.FileId.{FileId}
+use Rattle.law_frame.specs.pg_run.pg_edges.declared.edge.Edge.{Edge}
+use Rattle.law_frame.specs.pg_run.pg_intent.declared.intent.Intent.{Intent}
+use Rattle.law_frame.specs.pg_run.pg_intent.Intent.{key_of}
+use Rattle.law_frame.specs.pg_run.pg_intent.Intents.{stands}
+use Rattle.law_frame.specs.pg_run.pg_msg.declared.message.Message.{Message}
+use Rattle.law_frame.specs.pg_run.pg_msg.declared.work.Work.{Work}
+use Rattle.law_frame.specs.pg_run.pg_store.declared.store.Store.{Store}
+use Rattle.law_frame.specs.pg_run.pg_pieces.Done.{Done}
+use Rattle.law_frame.specs.pg_run.pg_pieces.Intending.{begin_intent}
+use Rattle.law_frame.specs.pg_run.pg_pieces.Posting.{post, sent_to}
+use Rattle.law_frame.specs.pg_run.pg_calls.GivingUp.{cells_of, doubt_all, enter_view}
+use Rattle.law_frame.specs.pg_run.pg_intentions.Inviting.{invite_along, invite_each, invite_of, invites, loose_edge}
+use Rattle.law_frame.specs.pg_run.pg_msg.declared.work.Slot.{Slot}
+use Rattle.law_frame.specs.pg_run.pg_names.Names.{directories}
+use Rattle.law_frame.specs.pg_run.pg_store.Views.{enter}
+use Rattle.law_frame.proofs.pg_run.theory_flood_pieces.Choices.{chosen}
 use Rattle.law_full.proofs.Works.{IsClosed, begun_sends, is_plain}
 
 module _ (Q : Work → Type 0) (k : IsClosed Q) where

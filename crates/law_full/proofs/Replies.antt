@@ -3,31 +3,31 @@
 use Rattle.std.proofs.Common.{ℕ, ◌≡◌, ◌==◌, ◌/◌, ◌%◌, Bool, true, false, cond, length, Option, None, Some, refl, sym, ap, ◌∙◌}
 use Rattle.std.specs.List.{slice_get}
 use Rattle.std.proofs.lemmas.Bool.{false≢true}
-use Rattle.pg_run.specs.pg_base.declared.id.FileId.{FileId}
-use Rattle.pg_run.specs.pg_edges.declared.edge.Edge.{Edge}
-use Rattle.pg_run.specs.pg_msg.declared.message.Ends.{Ends}
-use Rattle.pg_run.specs.pg_msg.declared.message.Message.{Message}
-use Rattle.pg_run.specs.pg_msg.declared.message.Message.TheVariants as message
-use Rattle.pg_run.specs.pg_msg.declared.summary.Greeting.TheVariants as greeting
-use Rattle.pg_run.specs.pg_msg.declared.work.Work.{Work}
-use Rattle.pg_run.specs.pg_msg.Work.{with_sent}
-use Rattle.pg_run.specs.pg_names.declared.attributes.Attributes.{Attributes}
-use Rattle.pg_run.specs.pg_names.Names.{own_or_blank}
-use Rattle.pg_run.specs.pg_replica.declared.replica.Replica.{Replica}
-use Rattle.pg_run.specs.pg_store.declared.store.Store.{Store}
-use Rattle.pg_run.specs.pg_store.Births.{birth_of}
-use Rattle.pg_run.specs.pg_store.Links.{is_clean, is_new_link, knows_later}
-use Rattle.pg_run.specs.pg_store.Seen.{server_of}
-use Rattle.pg_run.specs.pg_store.Store.{is_full, replica_at}
-use Rattle.pg_run.specs.pg_pieces.Accepting.{link_peer}
-use Rattle.pg_run.specs.pg_pieces.Done.{Done, idle}
-use Rattle.pg_run.specs.pg_pieces.Making.{own_next, raise_flag}
-use Rattle.pg_run.specs.pg_pieces.Posting.{reply, sent_to}
-use Rattle.pg_run.specs.pg_repair.Fetching.{answered_fetch, ends_to, fetch, give, given, granted_from}
-use Rattle.pg_run.specs.pg_graph.Walks.{edges_of, most_hops, walk_along, walk_from, walk_of, walk_of_tick, with_few_edges}
-use Rattle.pg_run.specs.pg_graph.Leaving.{bye_to}
-use Rattle.pg_run.specs.pg_server.Local.{receive}
-use Rattle.pg_run.proofs.theory_flood_pieces.Choices.{chosen, decided}
+use Rattle.law_frame.specs.pg_run.pg_base.declared.id.FileId.{FileId}
+use Rattle.law_frame.specs.pg_run.pg_edges.declared.edge.Edge.{Edge}
+use Rattle.law_frame.specs.pg_run.pg_msg.declared.message.Ends.{Ends}
+use Rattle.law_frame.specs.pg_run.pg_msg.declared.message.Message.{Message}
+use Rattle.law_frame.specs.pg_run.pg_msg.declared.message.Message.TheVariants as message
+use Rattle.law_frame.specs.pg_run.pg_msg.declared.summary.Greeting.TheVariants as greeting
+use Rattle.law_frame.specs.pg_run.pg_msg.declared.work.Work.{Work}
+use Rattle.law_frame.specs.pg_run.pg_msg.Work.{with_sent}
+use Rattle.law_frame.specs.pg_run.pg_names.declared.attributes.Attributes.{Attributes}
+use Rattle.law_frame.specs.pg_run.pg_names.Names.{own_or_blank}
+use Rattle.law_frame.specs.pg_run.pg_replica.declared.replica.Replica.{Replica}
+use Rattle.law_frame.specs.pg_run.pg_store.declared.store.Store.{Store}
+use Rattle.law_frame.specs.pg_run.pg_store.Births.{birth_of}
+use Rattle.law_frame.specs.pg_run.pg_store.Links.{is_clean, is_new_link, knows_later}
+use Rattle.law_frame.specs.pg_run.pg_store.Seen.{server_of}
+use Rattle.law_frame.specs.pg_run.pg_store.Store.{is_full, replica_at}
+use Rattle.law_frame.specs.pg_run.pg_pieces.Accepting.{link_peer}
+use Rattle.law_frame.specs.pg_run.pg_pieces.Done.{Done, idle}
+use Rattle.law_frame.specs.pg_run.pg_pieces.Making.{own_next, raise_flag}
+use Rattle.law_frame.specs.pg_run.pg_pieces.Posting.{reply, sent_to}
+use Rattle.law_frame.specs.pg_run.pg_repair.Fetching.{answered_fetch, ends_to, fetch, give, given, granted_from}
+use Rattle.law_frame.specs.pg_run.pg_graph.Walks.{edges_of, most_hops, walk_along, walk_from, walk_of, walk_of_tick, with_few_edges}
+use Rattle.law_frame.specs.pg_run.pg_graph.Leaving.{bye_to}
+use Rattle.law_frame.specs.pg_run.pg_server.Local.{receive}
+use Rattle.law_frame.proofs.pg_run.theory_flood_pieces.Choices.{chosen, decided}
 use Rattle.law_frame.proofs.Keeps.{Answers, Keeps}
 use Rattle.law_frame.proofs.Received.{receive_keeps}
 use Rattle.law_full.proofs.Plain.{intent_sends, plain_sends}

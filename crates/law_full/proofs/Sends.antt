@@ -3,34 +3,34 @@
 use Rattle.std.proofs.Common.{ℕ, ◌≡◌, true, [], ◌++◌, get_or, All, refl, subst}
 use Rattle.std.specs.List.{flat_map}
 use Rattle.std.proofs.lemmas.List.Elements.{All-append, All-nil, All-push}
-use Rattle.pg_run.specs.pg_base.declared.id.FileId.{FileId}
-use Rattle.pg_run.specs.pg_intent.declared.intent.Intent.{Intent}
-use Rattle.pg_run.specs.pg_intent.declared.key.IntentKey.{IntentKey}
-use Rattle.pg_run.specs.pg_msg.declared.message.Ends.{Ends}
-use Rattle.pg_run.specs.pg_msg.declared.message.Message.{Message}
-use Rattle.pg_run.specs.pg_msg.declared.message.Message.TheVariants as message
-use Rattle.pg_run.specs.pg_msg.declared.message.Packet.{Packet}
-use Rattle.pg_run.specs.pg_msg.declared.message.Sent.{Sent}
-use Rattle.pg_run.specs.pg_msg.declared.work.Work.{Work}
-use Rattle.pg_run.specs.pg_msg.Work.{new_work}
-use Rattle.pg_run.specs.pg_store.declared.store.Store.{Store}
-use Rattle.pg_run.specs.pg_names.declared.attributes.Attributes.{Attributes}
-use Rattle.pg_run.specs.pg_replica.declared.replica.Replica.{Replica}
-use Rattle.pg_run.specs.pg_store.Links.{is_clean}
-use Rattle.pg_run.specs.pg_store.Store.{is_full}
-use Rattle.pg_run.specs.pg_pieces.Accepting.{link_peer}
-use Rattle.pg_run.specs.pg_pieces.Posting.{sent_to}
-use Rattle.pg_run.specs.pg_repair.Fetching.{ends_to, granted_from}
-use Rattle.pg_run.specs.pg_pieces.Done.{Done, idle}
-use Rattle.pg_run.specs.pg_cells.Sending.{Wanted, cells_where, is_any, is_chosen}
-use Rattle.pg_run.specs.pg_cells.Ticks.{tick}
-use Rattle.pg_run.specs.pg_intentions.Requests.{ask_all, asks, asks_by}
-use Rattle.pg_run.specs.pg_server.declared.input.Input.{Input}
-use Rattle.pg_run.specs.pg_server.declared.input.Input.TheVariants as input
-use Rattle.pg_run.specs.pg_server.Local.{effect, first_effect, is_heard, receive}
-use Rattle.pg_run.proofs.theory_flood_pieces.Choices.{All-flat_map, chosen}
-use Rattle.pg_run.proofs.Event.{all_sent, end_of, store_is}
-use Rattle.pg_run.proofs.Ticked.{tick_work}
+use Rattle.law_frame.specs.pg_run.pg_base.declared.id.FileId.{FileId}
+use Rattle.law_frame.specs.pg_run.pg_intent.declared.intent.Intent.{Intent}
+use Rattle.law_frame.specs.pg_run.pg_intent.declared.key.IntentKey.{IntentKey}
+use Rattle.law_frame.specs.pg_run.pg_msg.declared.message.Ends.{Ends}
+use Rattle.law_frame.specs.pg_run.pg_msg.declared.message.Message.{Message}
+use Rattle.law_frame.specs.pg_run.pg_msg.declared.message.Message.TheVariants as message
+use Rattle.law_frame.specs.pg_run.pg_msg.declared.message.Packet.{Packet}
+use Rattle.law_frame.specs.pg_run.pg_msg.declared.message.Sent.{Sent}
+use Rattle.law_frame.specs.pg_run.pg_msg.declared.work.Work.{Work}
+use Rattle.law_frame.specs.pg_run.pg_msg.Work.{new_work}
+use Rattle.law_frame.specs.pg_run.pg_store.declared.store.Store.{Store}
+use Rattle.law_frame.specs.pg_run.pg_names.declared.attributes.Attributes.{Attributes}
+use Rattle.law_frame.specs.pg_run.pg_replica.declared.replica.Replica.{Replica}
+use Rattle.law_frame.specs.pg_run.pg_store.Links.{is_clean}
+use Rattle.law_frame.specs.pg_run.pg_store.Store.{is_full}
+use Rattle.law_frame.specs.pg_run.pg_pieces.Accepting.{link_peer}
+use Rattle.law_frame.specs.pg_run.pg_pieces.Posting.{sent_to}
+use Rattle.law_frame.specs.pg_run.pg_repair.Fetching.{ends_to, granted_from}
+use Rattle.law_frame.specs.pg_run.pg_pieces.Done.{Done, idle}
+use Rattle.law_frame.specs.pg_run.pg_cells.Sending.{Wanted, cells_where, is_any, is_chosen}
+use Rattle.law_frame.specs.pg_run.pg_cells.Ticks.{tick}
+use Rattle.law_frame.specs.pg_run.pg_intentions.Requests.{ask_all, asks, asks_by}
+use Rattle.law_frame.specs.pg_run.pg_server.declared.input.Input.{Input}
+use Rattle.law_frame.specs.pg_run.pg_server.declared.input.Input.TheVariants as input
+use Rattle.law_frame.specs.pg_run.pg_server.Local.{effect, first_effect, is_heard, receive}
+use Rattle.law_frame.proofs.pg_run.theory_flood_pieces.Choices.{All-flat_map, chosen}
+use Rattle.law_frame.proofs.pg_run.Event.{all_sent, end_of, store_is}
+use Rattle.law_frame.proofs.pg_run.Ticked.{tick_work}
 use Rattle.law_full.proofs.Called.{call_sends}
 use Rattle.law_full.proofs.Replies.{MayAnswer, receive_sends, tick_sends}
 use Rattle.law_full.proofs.Works.{IsClosed, is_plain}

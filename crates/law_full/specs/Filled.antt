@@ -1,21 +1,21 @@
 -- Full replicas have places.
 use Rattle.std.specs.Prelude.{ℕ, ◌≡◌, ◌⊎◌, true, false, All, List, Some}
-use Rattle.pg_run.specs.pg_base.declared.id.FileId.{FileId}
-use Rattle.pg_run.specs.pg_base.Id.{is_same_file}
-use Rattle.pg_run.specs.pg_base.Stamp.{is_before}
-use Rattle.pg_run.specs.pg_event.declared.event.Event.{Event}
-use Rattle.pg_run.specs.pg_msg.declared.message.Ends.{Ends}
-use Rattle.pg_run.specs.pg_msg.declared.message.Message.TheVariants as message
-use Rattle.pg_run.specs.pg_msg.declared.message.Sent.{Sent}
-use Rattle.pg_run.specs.pg_names.Names.{NamesValue, own_or_blank}
-use Rattle.pg_run.specs.pg_register.declared.place.Place.{Place}
-use Rattle.pg_run.specs.pg_register.Place.{first_stamp, root}
-use Rattle.pg_run.specs.pg_store.declared.store.Store.{Store}
-use Rattle.pg_run.specs.pg_store.Store.{is_full}
-use Rattle.pg_run.specs.pg_store.Together.{IsOver, birth_at}
-use Rattle.pg_run.specs.Journal.{mail}
-use Rattle.pg_run.specs.Laws.{AtEach, store_after}
-use Rattle.pg_run.specs.Run.{World, run}
+use Rattle.law_frame.specs.pg_run.pg_base.declared.id.FileId.{FileId}
+use Rattle.law_frame.specs.pg_run.pg_base.Id.{is_same_file}
+use Rattle.law_frame.specs.pg_run.pg_base.Stamp.{is_before}
+use Rattle.law_frame.specs.pg_run.pg_event.declared.event.Event.{Event}
+use Rattle.law_frame.specs.pg_run.pg_msg.declared.message.Ends.{Ends}
+use Rattle.law_frame.specs.pg_run.pg_msg.declared.message.Message.TheVariants as message
+use Rattle.law_frame.specs.pg_run.pg_msg.declared.message.Sent.{Sent}
+use Rattle.law_frame.specs.pg_run.pg_names.Names.{NamesValue, own_or_blank}
+use Rattle.law_frame.specs.pg_run.pg_register.declared.place.Place.{Place}
+use Rattle.law_frame.specs.pg_run.pg_register.Place.{first_stamp, root}
+use Rattle.law_frame.specs.pg_run.pg_store.declared.store.Store.{Store}
+use Rattle.law_frame.specs.pg_run.pg_store.Store.{is_full}
+use Rattle.law_frame.specs.pg_run.pg_store.Together.{IsOver, birth_at}
+use Rattle.law_frame.specs.pg_run.Journal.{mail}
+use Rattle.law_frame.specs.pg_run.Laws.{AtEach, store_after}
+use Rattle.law_frame.specs.pg_run.Run.{World, run}
 
 -- a place with a later stamp than the first: it is not the blank one, nor one that is as old
 abbrev pub IsLate : Place → Type 0

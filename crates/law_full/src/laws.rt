@@ -3,10 +3,10 @@
 
 ghost use Rattle.std.specs.Prelude.{ℕ};
 ghost use Rattle.law_full.specs.Filled.{FullPlaced, FullSays};
-ghost use Rattle.pg_run.specs.Acknowledged.{AcknowledgedKeysAreHad};
-ghost use Rattle.pg_run.specs.Births.{BirthsMoveInEvents};
-ghost use Rattle.pg_run.specs.Grown.{EventsGrow};
-ghost use Rattle.pg_run.specs.Known.{CarriedIsKnown, PlacesHaveOwnStamps};
+ghost use Rattle.law_frame.specs.pg_run.Acknowledged.{AcknowledgedKeysAreHad};
+ghost use Rattle.law_frame.specs.pg_run.Births.{BirthsMoveInEvents};
+ghost use Rattle.law_frame.specs.pg_run.Grown.{EventsGrow};
+ghost use Rattle.law_frame.specs.pg_run.Known.{CarriedIsKnown, PlacesHaveOwnStamps};
 
 /// Where peers have what they acknowledged, servers lose nothing that they hold unless a replica
 /// goes, and no two places of a thing have one stamp: each full replica but the root's has a place

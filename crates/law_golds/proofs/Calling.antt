@@ -1,57 +1,57 @@
 -- What a call leaves: it raises the flag of a new thing, lowers one, or makes none.
 use Rattle.std.proofs.Common.{ℕ, ◌≡◌, ◌==◌, true, false, List, [], ◌∷◌, ◌++◌, Option, None, Some, Result, refl, sym, ap, ◌∙◌, inl, inr}
 use Rattle.std.proofs.lemmas.List.Elements.{All-nil, All-push}
-use Rattle.law_contents.specs.pg_base.declared.id.FileId.{FileId}
-use Rattle.law_contents.specs.pg_base.declared.id.Kind.{Kind}
-use Rattle.law_contents.specs.pg_base.declared.id.Kind.TheVariants.{Dir, File}
-use Rattle.law_contents.specs.pg_base.declared.policy.Policy.{Policy}
-use Rattle.law_contents.specs.pg_base.declared.policy.Policy.TheVariants.{Last}
-use Rattle.law_contents.specs.pg_base.declared.stamp.Stamp.{Stamp}
-use Rattle.law_contents.specs.pg_patch.Ranges.{RangesValue, cut_to, written}
-use Rattle.law_contents.specs.pg_call.declared.call.Call.{Call}
-use Rattle.law_contents.specs.pg_call.declared.call.Call.TheVariants as call
-use Rattle.law_contents.specs.pg_call.declared.reply.Reply.{Reply}
-use Rattle.law_contents.specs.pg_msg.declared.message.Message.TheVariants as message
-use Rattle.law_contents.specs.pg_msg.declared.update.MadeVersion.{MadeVersion}
-use Rattle.law_contents.specs.pg_msg.declared.update.Update.{Update}
-use Rattle.law_contents.specs.pg_msg.declared.update.Update.TheVariants as update
-use Rattle.law_contents.specs.pg_msg.declared.work.Work.{Work}
-use Rattle.law_contents.specs.pg_msg.Work.{with_made}
-use Rattle.law_contents.proofs.pg_names.Holding.{begun_same}
-use Rattle.law_contents.specs.pg_names.Names.{blank_own, is_full_of}
-use Rattle.law_contents.specs.pg_register.declared.flag.Flag.{Flag}
-use Rattle.law_contents.specs.pg_register.declared.place.Place.{Place}
-use Rattle.law_contents.specs.pg_register.Flag.{flag_of, is_raised_with}
-use Rattle.law_contents.specs.pg_store.declared.store.Store.{Store}
-use Rattle.law_contents.specs.pg_store.declared.wishes.Wish.{Wish}
-use Rattle.law_contents.specs.pg_store.Beginning.{patches_of, put_new}
-use Rattle.law_contents.specs.pg_store.Births.{birth_of, draw_birth, with_birth, with_wish}
-use Rattle.law_contents.specs.pg_store.Seen.{server_of}
-use Rattle.law_contents.specs.pg_store.Store.{is_full, is_held, write}
-use Rattle.law_contents.specs.pg_store.Together.{AreTogether}
-use Rattle.law_contents.specs.pg_pieces.Done.{Done, idle}
-use Rattle.law_contents.specs.pg_pieces.Intending.{begin_intent}
-use Rattle.law_contents.specs.pg_pieces.Making.{lower_flag}
-use Rattle.law_contents.proofs.pg_store.Pairs.{patches_as_before}
-use Rattle.law_contents.specs.pg_pieces.Posting.{post, sent_to}
-use Rattle.law_contents.specs.pg_server.Local.{done_of}
-use Rattle.law_contents.specs.pg_lookup.declared.paths.Found.{Found}
-use Rattle.law_contents.specs.pg_lookup.declared.paths.LookupError.{LookupError}
-use Rattle.law_contents.specs.pg_lookup.declared.paths.LookupError.TheVariants as stop
-use Rattle.law_contents.specs.pg_checks.declared.checks.NewName.{NewName}
-use Rattle.law_contents.specs.pg_checks.Answer.{Answer, deny, replied, told}
-use Rattle.law_contents.specs.pg_checks.Asking.{ask_by, ask_first, fetch, fresh_wish, holder, standing}
-use Rattle.law_contents.specs.pg_calls.Bodies.{change, change_file, when_fit}
-use Rattle.law_contents.specs.pg_calls.Calls.{do_call}
-use Rattle.law_contents.specs.pg_checks.Checks.{dir_at, empty_dir_at, file_at, in_time, move_of, new_name, target_at}
-use Rattle.law_contents.specs.pg_pieces.Golds.{is_gold}
-use Rattle.law_contents.specs.pg_calls.Demoting.{demoted_at, lowered}
-use Rattle.law_contents.specs.pg_calls.Dropping.{clean_gold, dropped_at, leave_of, leaving}
-use Rattle.law_contents.specs.pg_calls.Forgetting.{lost_at}
-use Rattle.law_contents.specs.pg_calls.GivingUp.{enter_view, removal_at}
-use Rattle.law_contents.specs.pg_calls.Making.{drawn, first_ranges, make_place, make_version, version_of}
-use Rattle.law_contents.specs.pg_calls.Naming.{begun, dead_place, next_id, place_in, with_id, with_thing}
-use Rattle.law_contents.proofs.theory_flood_pieces.Choices.{chosen, decided}
+use Rattle.law_frame.specs.pg_run.pg_base.declared.id.FileId.{FileId}
+use Rattle.law_frame.specs.pg_run.pg_base.declared.id.Kind.{Kind}
+use Rattle.law_frame.specs.pg_run.pg_base.declared.id.Kind.TheVariants.{Dir, File}
+use Rattle.law_frame.specs.pg_run.pg_base.declared.policy.Policy.{Policy}
+use Rattle.law_frame.specs.pg_run.pg_base.declared.policy.Policy.TheVariants.{Last}
+use Rattle.law_frame.specs.pg_run.pg_base.declared.stamp.Stamp.{Stamp}
+use Rattle.law_frame.specs.pg_run.pg_patch.Ranges.{RangesValue, cut_to, written}
+use Rattle.law_frame.specs.pg_run.pg_call.declared.call.Call.{Call}
+use Rattle.law_frame.specs.pg_run.pg_call.declared.call.Call.TheVariants as call
+use Rattle.law_frame.specs.pg_run.pg_call.declared.reply.Reply.{Reply}
+use Rattle.law_frame.specs.pg_run.pg_msg.declared.message.Message.TheVariants as message
+use Rattle.law_frame.specs.pg_run.pg_msg.declared.update.MadeVersion.{MadeVersion}
+use Rattle.law_frame.specs.pg_run.pg_msg.declared.update.Update.{Update}
+use Rattle.law_frame.specs.pg_run.pg_msg.declared.update.Update.TheVariants as update
+use Rattle.law_frame.specs.pg_run.pg_msg.declared.work.Work.{Work}
+use Rattle.law_frame.specs.pg_run.pg_msg.Work.{with_made}
+use Rattle.law_frame.proofs.pg_run.pg_names.Holding.{begun_same}
+use Rattle.law_frame.specs.pg_run.pg_names.Names.{blank_own, is_full_of}
+use Rattle.law_frame.specs.pg_run.pg_register.declared.flag.Flag.{Flag}
+use Rattle.law_frame.specs.pg_run.pg_register.declared.place.Place.{Place}
+use Rattle.law_frame.specs.pg_run.pg_register.Flag.{flag_of, is_raised_with}
+use Rattle.law_frame.specs.pg_run.pg_store.declared.store.Store.{Store}
+use Rattle.law_frame.specs.pg_run.pg_store.declared.wishes.Wish.{Wish}
+use Rattle.law_frame.specs.pg_run.pg_store.Beginning.{patches_of, put_new}
+use Rattle.law_frame.specs.pg_run.pg_store.Births.{birth_of, draw_birth, with_birth, with_wish}
+use Rattle.law_frame.specs.pg_run.pg_store.Seen.{server_of}
+use Rattle.law_frame.specs.pg_run.pg_store.Store.{is_full, is_held, write}
+use Rattle.law_frame.specs.pg_run.pg_store.Together.{AreTogether}
+use Rattle.law_frame.specs.pg_run.pg_pieces.Done.{Done, idle}
+use Rattle.law_frame.specs.pg_run.pg_pieces.Intending.{begin_intent}
+use Rattle.law_frame.specs.pg_run.pg_pieces.Making.{lower_flag}
+use Rattle.law_frame.proofs.pg_run.pg_store.Pairs.{patches_as_before}
+use Rattle.law_frame.specs.pg_run.pg_pieces.Posting.{post, sent_to}
+use Rattle.law_frame.specs.pg_run.pg_server.Local.{done_of}
+use Rattle.law_frame.specs.pg_run.pg_lookup.declared.paths.Found.{Found}
+use Rattle.law_frame.specs.pg_run.pg_lookup.declared.paths.LookupError.{LookupError}
+use Rattle.law_frame.specs.pg_run.pg_lookup.declared.paths.LookupError.TheVariants as stop
+use Rattle.law_frame.specs.pg_run.pg_checks.declared.checks.NewName.{NewName}
+use Rattle.law_frame.specs.pg_run.pg_checks.Answer.{Answer, deny, replied, told}
+use Rattle.law_frame.specs.pg_run.pg_checks.Asking.{ask_by, ask_first, fetch, fresh_wish, holder, standing}
+use Rattle.law_frame.specs.pg_run.pg_calls.Bodies.{change, change_file, when_fit}
+use Rattle.law_frame.specs.pg_run.pg_calls.Calls.{do_call}
+use Rattle.law_frame.specs.pg_run.pg_checks.Checks.{dir_at, empty_dir_at, file_at, in_time, move_of, new_name, target_at}
+use Rattle.law_frame.specs.pg_run.pg_pieces.Golds.{is_gold}
+use Rattle.law_frame.specs.pg_run.pg_calls.Demoting.{demoted_at, lowered}
+use Rattle.law_frame.specs.pg_run.pg_calls.Dropping.{clean_gold, dropped_at, leave_of, leaving}
+use Rattle.law_frame.specs.pg_run.pg_calls.Forgetting.{lost_at}
+use Rattle.law_frame.specs.pg_run.pg_calls.GivingUp.{enter_view, removal_at}
+use Rattle.law_frame.specs.pg_run.pg_calls.Making.{drawn, first_ranges, make_place, make_version, version_of}
+use Rattle.law_frame.specs.pg_run.pg_calls.Naming.{begun, dead_place, next_id, place_in, with_id, with_thing}
+use Rattle.law_frame.proofs.pg_run.theory_flood_pieces.Choices.{chosen, decided}
 use Rattle.law_births.specs.Flags.{AnyBye}
 use Rattle.law_births.proofs.Pieces.{place_stays, write_stays}
 use Rattle.law_births.proofs.Begins.{begin_back}
@@ -66,7 +66,7 @@ use Rattle.law_golds.proofs.Kept.{GoesOn, begin_flags, begun_births, flags_at, f
 use Rattle.law_golds.proofs.Losing.{entered_says, lost_fine, more_given, one_above, place_no_flag}
 use Rattle.law_golds.proofs.Received.{said_begun_intent}
 use Rattle.law_golds.proofs.Says.{Says, SaysSent, said_on, said_place}
-use Rattle.law_contents.proofs.pg_run.Still.{still as nothing_more}
+use Rattle.law_frame.proofs.pg_run.Still.{still as nothing_more}
 
 -- a version is no flag
 version_no_flag : (v : MadeVersion) → NoFlags (update.Version v ∷ [])

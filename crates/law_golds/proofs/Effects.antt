@@ -3,41 +3,41 @@ use Rattle.std.proofs.Common.{ℕ, ◌≡◌, true, false, List, [], ◌∷◌, 
 use Rattle.std.specs.List.{flat_map}
 use Rattle.std.specs.Option.{option_map}
 use Rattle.std.proofs.lemmas.List.Elements.{All-append, All-nil}
-use Rattle.law_contents.specs.pg_base.declared.id.FileId.{FileId}
-use Rattle.law_contents.specs.pg_base.declared.id.Kind.{Kind}
-use Rattle.law_contents.specs.pg_house.Work.{state_of}
-use Rattle.law_contents.specs.pg_msg.declared.message.Message.{Message}
-use Rattle.law_contents.specs.pg_msg.declared.message.Message.TheVariants as message
-use Rattle.law_contents.specs.pg_msg.declared.message.Packet.{Packet}
-use Rattle.law_contents.specs.pg_msg.declared.update.Update.{Update}
-use Rattle.law_contents.specs.pg_msg.declared.update.Update.TheVariants as update
-use Rattle.law_contents.specs.pg_msg.declared.work.Work.{Work}
-use Rattle.law_contents.specs.pg_msg.Work.{new_work}
-use Rattle.law_contents.specs.pg_names.Names.{NamesValue}
-use Rattle.law_contents.specs.pg_register.declared.flag.Flag.{Flag}
-use Rattle.law_contents.specs.pg_replica.declared.replica.Replica.{Replica}
-use Rattle.law_contents.specs.pg_replica.Replicas.{ByFile, replica_in}
-use Rattle.law_contents.specs.pg_store.declared.store.Store.{Store}
-use Rattle.law_contents.specs.pg_store.Store.{is_held}
-use Rattle.law_contents.specs.pg_store.Together.{AreTogether, birth_at}
-use Rattle.law_contents.specs.pg_pieces.Done.{Done, idle}
-use Rattle.law_contents.specs.pg_pieces.Golds.{is_goldless}
-use Rattle.law_contents.specs.pg_pieces.Making.{raise_flag}
-use Rattle.law_contents.specs.pg_cells.Sending.{cells_where, is_any, is_chosen}
-use Rattle.law_contents.specs.pg_cells.Settling.{rules}
-use Rattle.law_contents.specs.pg_cells.Ticks.{tick}
-use Rattle.law_contents.proofs.pg_cells.Settled.{settle_keeps}
-use Rattle.law_contents.specs.pg_intentions.Requests.{ask_all, asks}
-use Rattle.law_contents.proofs.pg_intentions.Steady.{begin_end_stays}
-use Rattle.law_contents.specs.pg_calls.Naming.{next_id}
-use Rattle.law_contents.specs.theory_flood_pieces.Whole.{IsWhole}
-use Rattle.law_contents.proofs.theory_flood_pieces.Choices.{chosen}
-use Rattle.law_contents.proofs.theory_flood_pieces.Front.{house_sent, house_tail}
-use Rattle.law_contents.proofs.theory_flood_pieces.Grown.{grown_by_steps}
-use Rattle.law_contents.proofs.theory_flood_pieces.Settling.{goldless_own, rules_steps, whole_raised, whole_rules}
-use Rattle.law_contents.specs.pg_server.declared.input.Input.{Input}
-use Rattle.law_contents.specs.pg_server.Local.{effect, first_effect, intended, receive, settled, takes_effect, ticked, without_sources, without_volatile}
-use Rattle.law_contents.proofs.pg_run.Event.{Comes, all_sent, end_of, end_sent, end_tail, first_has}
+use Rattle.law_frame.specs.pg_run.pg_base.declared.id.FileId.{FileId}
+use Rattle.law_frame.specs.pg_run.pg_base.declared.id.Kind.{Kind}
+use Rattle.law_frame.specs.pg_run.pg_house.Work.{state_of}
+use Rattle.law_frame.specs.pg_run.pg_msg.declared.message.Message.{Message}
+use Rattle.law_frame.specs.pg_run.pg_msg.declared.message.Message.TheVariants as message
+use Rattle.law_frame.specs.pg_run.pg_msg.declared.message.Packet.{Packet}
+use Rattle.law_frame.specs.pg_run.pg_msg.declared.update.Update.{Update}
+use Rattle.law_frame.specs.pg_run.pg_msg.declared.update.Update.TheVariants as update
+use Rattle.law_frame.specs.pg_run.pg_msg.declared.work.Work.{Work}
+use Rattle.law_frame.specs.pg_run.pg_msg.Work.{new_work}
+use Rattle.law_frame.specs.pg_run.pg_names.Names.{NamesValue}
+use Rattle.law_frame.specs.pg_run.pg_register.declared.flag.Flag.{Flag}
+use Rattle.law_frame.specs.pg_run.pg_replica.declared.replica.Replica.{Replica}
+use Rattle.law_frame.specs.pg_run.pg_replica.Replicas.{ByFile, replica_in}
+use Rattle.law_frame.specs.pg_run.pg_store.declared.store.Store.{Store}
+use Rattle.law_frame.specs.pg_run.pg_store.Store.{is_held}
+use Rattle.law_frame.specs.pg_run.pg_store.Together.{AreTogether, birth_at}
+use Rattle.law_frame.specs.pg_run.pg_pieces.Done.{Done, idle}
+use Rattle.law_frame.specs.pg_run.pg_pieces.Golds.{is_goldless}
+use Rattle.law_frame.specs.pg_run.pg_pieces.Making.{raise_flag}
+use Rattle.law_frame.specs.pg_run.pg_cells.Sending.{cells_where, is_any, is_chosen}
+use Rattle.law_frame.specs.pg_run.pg_cells.Settling.{rules}
+use Rattle.law_frame.specs.pg_run.pg_cells.Ticks.{tick}
+use Rattle.law_frame.proofs.pg_run.pg_cells.Settled.{settle_keeps}
+use Rattle.law_frame.specs.pg_run.pg_intentions.Requests.{ask_all, asks}
+use Rattle.law_frame.proofs.pg_run.pg_intentions.Steady.{begin_end_stays}
+use Rattle.law_frame.specs.pg_run.pg_calls.Naming.{next_id}
+use Rattle.law_frame.specs.pg_run.theory_flood_pieces.Whole.{IsWhole}
+use Rattle.law_frame.proofs.pg_run.theory_flood_pieces.Choices.{chosen}
+use Rattle.law_frame.proofs.pg_run.theory_flood_pieces.Front.{house_sent, house_tail}
+use Rattle.law_frame.proofs.pg_run.theory_flood_pieces.Grown.{grown_by_steps}
+use Rattle.law_frame.proofs.pg_run.theory_flood_pieces.Settling.{goldless_own, rules_steps, whole_raised, whole_rules}
+use Rattle.law_frame.specs.pg_run.pg_server.declared.input.Input.{Input}
+use Rattle.law_frame.specs.pg_run.pg_server.Local.{effect, first_effect, intended, receive, settled, takes_effect, ticked, without_sources, without_volatile}
+use Rattle.law_frame.proofs.pg_run.Event.{Comes, all_sent, end_of, end_sent, end_tail, first_has}
 use Rattle.law_births.specs.Flags.{AnyBye, SaysMessage, SaysStore}
 use Rattle.law_births.proofs.Here.{birth_of_held}
 use Rattle.law_births.proofs.Intends.{begin_end_goes}

@@ -2,29 +2,29 @@
 use Rattle.std.proofs.Common.{ℕ, ◌≡◌, ◌&&◌, true, false, cond, not, List, [], Option, None, Some, is_some, refl, subst, ◌∙◌, inl}
 use Rattle.std.specs.Prelude.{nat_lt}
 use Rattle.std.proofs.lemmas.Bool.{and_parts}
-use Rattle.law_contents.specs.pg_base.declared.id.FileId.{FileId}
-use Rattle.law_contents.specs.pg_content.Content.{Among}
-use Rattle.law_contents.specs.pg_msg.declared.message.Ends.{Ends}
-use Rattle.law_contents.specs.pg_msg.declared.update.Update.{Update}
-use Rattle.law_contents.specs.pg_msg.declared.update.Update.TheVariants as update
-use Rattle.law_contents.specs.pg_msg.declared.work.Work.{Work}
-use Rattle.law_contents.specs.pg_names.declared.attributes.Attributes.{Attributes}
-use Rattle.law_contents.specs.pg_names.Names.{InodeValue, NamesValue, fill as fill_names, is_full as names_full, is_full_of, known, or_blank, own_at, own_of}
-use Rattle.law_contents.proofs.pg_names.Holding.{fill_same}
-use Rattle.law_contents.specs.pg_register.declared.flag.Flag.{Flag}
-use Rattle.law_contents.specs.pg_register.Flag.{flag_of}
-use Rattle.law_contents.specs.pg_store.declared.store.Store.{Store}
-use Rattle.law_contents.specs.pg_store.Births.{has_birth}
-use Rattle.law_contents.specs.pg_store.Store.{is_full, replica_at, with_names}
-use Rattle.law_contents.specs.pg_store.Together.{AreTogether, birth_at}
-use Rattle.law_contents.specs.pg_pieces.declared.accepting.EdgeUse.TheVariants as manner
-use Rattle.law_contents.specs.pg_pieces.Accepting.{accept, is_accepted, is_current, with_gone}
-use Rattle.law_contents.specs.pg_store.Links.{knows_later}
-use Rattle.law_contents.proofs.pg_store.Pairs.{as_before}
-use Rattle.law_contents.specs.pg_pieces.Done.{Done, idle}
-use Rattle.law_contents.specs.pg_pieces.Making.{raise_flag}
-use Rattle.law_contents.specs.pg_repair.Filling.{few_golds, fill, full, invite, invited, is_bronze, live_golds, raise_if_few}
-use Rattle.law_contents.proofs.theory_flood_pieces.Choices.{chosen, decided}
+use Rattle.law_frame.specs.pg_run.pg_base.declared.id.FileId.{FileId}
+use Rattle.law_frame.specs.pg_run.pg_content.Content.{Among}
+use Rattle.law_frame.specs.pg_run.pg_msg.declared.message.Ends.{Ends}
+use Rattle.law_frame.specs.pg_run.pg_msg.declared.update.Update.{Update}
+use Rattle.law_frame.specs.pg_run.pg_msg.declared.update.Update.TheVariants as update
+use Rattle.law_frame.specs.pg_run.pg_msg.declared.work.Work.{Work}
+use Rattle.law_frame.specs.pg_run.pg_names.declared.attributes.Attributes.{Attributes}
+use Rattle.law_frame.specs.pg_run.pg_names.Names.{InodeValue, NamesValue, fill as fill_names, is_full as names_full, is_full_of, known, or_blank, own_at, own_of}
+use Rattle.law_frame.proofs.pg_run.pg_names.Holding.{fill_same}
+use Rattle.law_frame.specs.pg_run.pg_register.declared.flag.Flag.{Flag}
+use Rattle.law_frame.specs.pg_run.pg_register.Flag.{flag_of}
+use Rattle.law_frame.specs.pg_run.pg_store.declared.store.Store.{Store}
+use Rattle.law_frame.specs.pg_run.pg_store.Births.{has_birth}
+use Rattle.law_frame.specs.pg_run.pg_store.Store.{is_full, replica_at, with_names}
+use Rattle.law_frame.specs.pg_run.pg_store.Together.{AreTogether, birth_at}
+use Rattle.law_frame.specs.pg_run.pg_pieces.declared.accepting.EdgeUse.TheVariants as manner
+use Rattle.law_frame.specs.pg_run.pg_pieces.Accepting.{accept, is_accepted, is_current, with_gone}
+use Rattle.law_frame.specs.pg_run.pg_store.Links.{knows_later}
+use Rattle.law_frame.proofs.pg_run.pg_store.Pairs.{as_before}
+use Rattle.law_frame.specs.pg_run.pg_pieces.Done.{Done, idle}
+use Rattle.law_frame.specs.pg_run.pg_pieces.Making.{raise_flag}
+use Rattle.law_frame.specs.pg_run.pg_repair.Filling.{few_golds, fill, full, invite, invited, is_bronze, live_golds, raise_if_few}
+use Rattle.law_frame.proofs.pg_run.theory_flood_pieces.Choices.{chosen, decided}
 use Rattle.law_births.specs.Flags.{AnyBye}
 use Rattle.law_births.proofs.Here.{of_birth}
 use Rattle.law_births.proofs.Pieces.{fill_stays}

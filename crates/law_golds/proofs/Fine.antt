@@ -2,22 +2,22 @@
 -- up to its server's own.
 use Rattle.std.proofs.Common.{ℕ, ◌≡◌, ◌<◌, Bool, List, Some, [], ◌∷◌, ◌++◌, All, refl, sym, ap, subst, ◌∙◌, inl, inr, ◌⊎◌, arith}
 use Rattle.std.proofs.lemmas.Option.{same_Some}
-use Rattle.law_contents.specs.pg_base.declared.id.FileId.{FileId}
-use Rattle.law_contents.specs.pg_content.Content.{Among}
-use Rattle.law_contents.specs.pg_msg.declared.update.Update.{Update}
-use Rattle.law_contents.specs.pg_msg.declared.update.Update.TheVariants as update
-use Rattle.law_contents.specs.pg_msg.declared.work.Work.{Work}
-use Rattle.law_contents.specs.pg_msg.Work.{with_made}
-use Rattle.law_contents.specs.pg_names.declared.attributes.Attributes.{Attributes}
-use Rattle.law_contents.specs.pg_names.Names.{own_at}
-use Rattle.law_contents.specs.pg_register.declared.flag.Flag.{Flag}
-use Rattle.law_contents.specs.pg_register.Flag.{flag_of}
-use Rattle.law_contents.specs.pg_store.declared.store.Store.{Store}
-use Rattle.law_contents.specs.pg_store.Seen.{server_of}
-use Rattle.law_contents.specs.pg_store.Together.{birth_at}
-use Rattle.law_contents.specs.pg_pieces.Done.{Done, idle}
-use Rattle.law_contents.specs.pg_pieces.Making.{make_flag, own_next}
-use Rattle.law_contents.proofs.theory_flood_pieces.Flags.{flag_server}
+use Rattle.law_frame.specs.pg_run.pg_base.declared.id.FileId.{FileId}
+use Rattle.law_frame.specs.pg_run.pg_content.Content.{Among}
+use Rattle.law_frame.specs.pg_run.pg_msg.declared.update.Update.{Update}
+use Rattle.law_frame.specs.pg_run.pg_msg.declared.update.Update.TheVariants as update
+use Rattle.law_frame.specs.pg_run.pg_msg.declared.work.Work.{Work}
+use Rattle.law_frame.specs.pg_run.pg_msg.Work.{with_made}
+use Rattle.law_frame.specs.pg_run.pg_names.declared.attributes.Attributes.{Attributes}
+use Rattle.law_frame.specs.pg_run.pg_names.Names.{own_at}
+use Rattle.law_frame.specs.pg_run.pg_register.declared.flag.Flag.{Flag}
+use Rattle.law_frame.specs.pg_run.pg_register.Flag.{flag_of}
+use Rattle.law_frame.specs.pg_run.pg_store.declared.store.Store.{Store}
+use Rattle.law_frame.specs.pg_run.pg_store.Seen.{server_of}
+use Rattle.law_frame.specs.pg_run.pg_store.Together.{birth_at}
+use Rattle.law_frame.specs.pg_run.pg_pieces.Done.{Done, idle}
+use Rattle.law_frame.specs.pg_run.pg_pieces.Making.{make_flag, own_next}
+use Rattle.law_frame.proofs.pg_run.theory_flood_pieces.Flags.{flag_server}
 use Rattle.law_births.specs.Flags.{AnyBye, SaysStore}
 use Rattle.law_births.proofs.Joined.{found_says}
 use Rattle.law_births.proofs.StoreSays.{own_says, say_flag}
@@ -27,7 +27,7 @@ use Rattle.law_golds.proofs.Kept.{GoesOn, flags_at, past_goes}
 use Rattle.law_golds.proofs.Known.{all_sent_less, store_less}
 use Rattle.law_golds.proofs.Own.{IsOwn, Stands, next_birth, next_later, next_own, own_goes, own_next_on, past_next}
 use Rattle.law_golds.proofs.Says.{SaysSent}
-use Rattle.law_contents.proofs.pg_run.Still.{flag_still}
+use Rattle.law_frame.proofs.pg_run.Still.{flag_still}
 
 -- ---- lists of what was made
 

@@ -3,11 +3,11 @@ use Rattle.std.proofs.Common.{ℕ, ◌≡◌, ◌==◌, ◌&&◌, true, false, c
 use Rattle.std.specs.Ordering.{nat_cmp}
 use Rattle.std.proofs.lemmas.Bool.{and_parts, eqb-true}
 use Rattle.std.proofs.lemmas.Bool.Decides.{nat_tests}
-use Rattle.law_contents.specs.pg_content.Content.{Among}
-use Rattle.law_contents.specs.pg_register.declared.flag.Flag.{Flag}
-use Rattle.law_contents.specs.pg_register.Flag.{IsByServer, flag_of, is_raised, is_raised_with}
-use Rattle.law_contents.proofs.pg_register.ByServer.{Above, IsByServer-head, IsByServer-tail, below, first}
-use Rattle.law_contents.proofs.pg_run.Found.{flag_found}
+use Rattle.law_frame.specs.pg_run.pg_content.Content.{Among}
+use Rattle.law_frame.specs.pg_run.pg_register.declared.flag.Flag.{Flag}
+use Rattle.law_frame.specs.pg_run.pg_register.Flag.{IsByServer, flag_of, is_raised, is_raised_with}
+use Rattle.law_frame.proofs.pg_run.pg_register.ByServer.{Above, IsByServer-head, IsByServer-tail, below, first}
+use Rattle.law_frame.proofs.pg_run.Found.{flag_found}
 
 -- ---- what stands there is found
 

@@ -2,35 +2,35 @@
 -- nothing but a replica begins, and a place or entries are taken.
 use Rattle.std.proofs.Common.{ℕ, ◌≡◌, ◌≤◌, ◌<◌, ◌⊎◌, arith, Bool, true, false, cond, List, [], ◌∷◌, Option, None, Some, is_some, inl, inr, refl, sym, ap, subst, ◌∙◌}
 use Rattle.std.specs.Option.{option_map}
-use Rattle.law_contents.specs.pg_base.declared.id.FileId.{FileId}
-use Rattle.law_contents.specs.pg_base.declared.policy.Policy.{Policy}
-use Rattle.law_contents.specs.pg_base.Id.{file_cmp, is_same_file}
-use Rattle.law_contents.proofs.pg_base.Maps.{lookup-insert_entry}
-use Rattle.law_contents.proofs.pg_base.Orders.{file_total, is_same_file-true}
-use Rattle.law_contents.specs.pg_entries.declared.entry.Entry.{Entry}
-use Rattle.law_contents.specs.pg_intent.declared.intent.Intent.{Intent}
-use Rattle.law_contents.specs.pg_intent.declared.intent.Intent.TheVariants as intent
-use Rattle.law_contents.specs.pg_intent.declared.key.IntentKey.{IntentKey}
-use Rattle.law_contents.specs.pg_intent.Intents.{ended, intent_at}
-use Rattle.law_contents.specs.pg_names.declared.attributes.Attributes.{Attributes}
-use Rattle.law_contents.specs.pg_names.Names.{InodeValue, NamesValue, begin as begin_names, fill, filled, join_entry, join_place, known, or_blank, own_at, own_of, own_or_blank, with_joined, with_place}
-use Rattle.law_contents.proofs.pg_names.Holding.{begun_other, begun_same}
-use Rattle.law_contents.proofs.pg_names.Lookups.{known_absent, own_kept, place_other, place_same}
-use Rattle.law_contents.specs.pg_register.declared.flag.Flag.{Flag}
-use Rattle.law_contents.specs.pg_register.declared.place.Place.{Place}
-use Rattle.law_contents.specs.pg_replica.declared.replica.Replica.{Replica}
-use Rattle.law_contents.specs.pg_replica.Replica.{new_replica}
-use Rattle.law_contents.specs.pg_store.declared.store.Store.{Store}
-use Rattle.law_contents.specs.pg_store.Beginning.{begin, patches_of, put_new, take_patch, take_patches, take_told, take_told_in, with_intents}
-use Rattle.law_contents.specs.pg_store.Store.{is_held, is_newer_entry, is_newer_place, put_entry, put_place, replica_at, take_entry, take_place}
-use Rattle.law_contents.specs.pg_store.Together.{AreBirths, AreTogether, BirthsMove, HoldsAsBefore, IsOver, birth_at}
-use Rattle.law_contents.proofs.pg_store.Over.{moves_as_before}
-use Rattle.law_contents.proofs.pg_store.Pairs.{patches_as_before}
-use Rattle.law_contents.specs.theory_flood_pieces.Growing.{Grows}
-use Rattle.law_contents.specs.theory_flood_pieces.UpTo.{AreFlagsUpTo}
-use Rattle.law_contents.proofs.theory_flood_pieces.Choices.{chosen}
-use Rattle.law_contents.proofs.theory_flood_pieces.UpTo.{flags_further, flags_themselves}
-use Rattle.law_contents.specs.pg_run.Births.{IsBirthAt}
+use Rattle.law_frame.specs.pg_run.pg_base.declared.id.FileId.{FileId}
+use Rattle.law_frame.specs.pg_run.pg_base.declared.policy.Policy.{Policy}
+use Rattle.law_frame.specs.pg_run.pg_base.Id.{file_cmp, is_same_file}
+use Rattle.law_frame.proofs.pg_run.pg_base.Maps.{lookup-insert_entry}
+use Rattle.law_frame.proofs.pg_run.pg_base.Orders.{file_total, is_same_file-true}
+use Rattle.law_frame.specs.pg_run.pg_entries.declared.entry.Entry.{Entry}
+use Rattle.law_frame.specs.pg_run.pg_intent.declared.intent.Intent.{Intent}
+use Rattle.law_frame.specs.pg_run.pg_intent.declared.intent.Intent.TheVariants as intent
+use Rattle.law_frame.specs.pg_run.pg_intent.declared.key.IntentKey.{IntentKey}
+use Rattle.law_frame.specs.pg_run.pg_intent.Intents.{ended, intent_at}
+use Rattle.law_frame.specs.pg_run.pg_names.declared.attributes.Attributes.{Attributes}
+use Rattle.law_frame.specs.pg_run.pg_names.Names.{InodeValue, NamesValue, begin as begin_names, fill, filled, join_entry, join_place, known, or_blank, own_at, own_of, own_or_blank, with_joined, with_place}
+use Rattle.law_frame.proofs.pg_run.pg_names.Holding.{begun_other, begun_same}
+use Rattle.law_frame.proofs.pg_run.pg_names.Lookups.{known_absent, own_kept, place_other, place_same}
+use Rattle.law_frame.specs.pg_run.pg_register.declared.flag.Flag.{Flag}
+use Rattle.law_frame.specs.pg_run.pg_register.declared.place.Place.{Place}
+use Rattle.law_frame.specs.pg_run.pg_replica.declared.replica.Replica.{Replica}
+use Rattle.law_frame.specs.pg_run.pg_replica.Replica.{new_replica}
+use Rattle.law_frame.specs.pg_run.pg_store.declared.store.Store.{Store}
+use Rattle.law_frame.specs.pg_run.pg_store.Beginning.{begin, patches_of, put_new, take_patch, take_patches, take_told, take_told_in, with_intents}
+use Rattle.law_frame.specs.pg_run.pg_store.Store.{is_held, is_newer_entry, is_newer_place, put_entry, put_place, replica_at, take_entry, take_place}
+use Rattle.law_frame.specs.pg_run.pg_store.Together.{AreBirths, AreTogether, BirthsMove, HoldsAsBefore, IsOver, birth_at}
+use Rattle.law_frame.proofs.pg_run.pg_store.Over.{moves_as_before}
+use Rattle.law_frame.proofs.pg_run.pg_store.Pairs.{patches_as_before}
+use Rattle.law_frame.specs.pg_run.theory_flood_pieces.Growing.{Grows}
+use Rattle.law_frame.specs.pg_run.theory_flood_pieces.UpTo.{AreFlagsUpTo}
+use Rattle.law_frame.proofs.pg_run.theory_flood_pieces.Choices.{chosen}
+use Rattle.law_frame.proofs.pg_run.theory_flood_pieces.UpTo.{flags_further, flags_themselves}
+use Rattle.law_frame.specs.pg_run.Births.{IsBirthAt}
 use Rattle.law_births.proofs.Has.{Goes, from_has, has_one, over_has, over_of, tests_so, to_has}
 use Rattle.law_births.proofs.Here.{of_birth}
 

@@ -1,17 +1,17 @@
 -- What is said of flags is said where less is said.
 use Rattle.std.proofs.Common.{ℕ, List, All}
 use Rattle.std.proofs.lemmas.List.Elements.{All-weaker}
-use Rattle.law_contents.specs.pg_base.declared.id.FileId.{FileId}
-use Rattle.law_contents.specs.pg_entries.declared.cell.Cell.{Cell}
-use Rattle.law_contents.specs.pg_entries.declared.cell.Cell.TheVariants as cells
-use Rattle.law_contents.specs.pg_intent.declared.intent.Intent.{Intent}
-use Rattle.law_contents.specs.pg_intent.declared.intent.Intent.TheVariants as intent
-use Rattle.law_contents.specs.pg_msg.declared.message.Message.{Message}
-use Rattle.law_contents.specs.pg_msg.declared.message.Message.TheVariants as message
-use Rattle.law_contents.specs.pg_msg.declared.message.Sent.{Sent}
-use Rattle.law_contents.specs.pg_names.Names.{NamesValue}
-use Rattle.law_contents.specs.pg_register.declared.flag.Flag.{Flag}
-use Rattle.law_contents.specs.pg_store.declared.store.Store.{Store}
+use Rattle.law_frame.specs.pg_run.pg_base.declared.id.FileId.{FileId}
+use Rattle.law_frame.specs.pg_run.pg_entries.declared.cell.Cell.{Cell}
+use Rattle.law_frame.specs.pg_run.pg_entries.declared.cell.Cell.TheVariants as cells
+use Rattle.law_frame.specs.pg_run.pg_intent.declared.intent.Intent.{Intent}
+use Rattle.law_frame.specs.pg_run.pg_intent.declared.intent.Intent.TheVariants as intent
+use Rattle.law_frame.specs.pg_run.pg_msg.declared.message.Message.{Message}
+use Rattle.law_frame.specs.pg_run.pg_msg.declared.message.Message.TheVariants as message
+use Rattle.law_frame.specs.pg_run.pg_msg.declared.message.Sent.{Sent}
+use Rattle.law_frame.specs.pg_run.pg_names.Names.{NamesValue}
+use Rattle.law_frame.specs.pg_run.pg_register.declared.flag.Flag.{Flag}
+use Rattle.law_frame.specs.pg_run.pg_store.declared.store.Store.{Store}
 use Rattle.law_births.specs.Flags.{AnyBye, SaysCell, SaysIntent, SaysMessage, SaysNames, SaysStore}
 use Rattle.law_golds.proofs.Says.{SaysSent}
 

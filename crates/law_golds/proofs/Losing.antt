@@ -2,35 +2,35 @@
 use Rattle.std.proofs.Common.{ℕ, ◌≡◌, ◌≤◌, ◌<◌, ◌+◌, arith, true, false, cond, List, [], ◌∷◌, ◌++◌, Option, None, Some, All, refl, sym, ap, subst, ◌∙◌, inl, inr}
 use Rattle.std.specs.Map.{keys_of}
 use Rattle.std.proofs.lemmas.List.Elements.{All-nil}
-use Rattle.law_contents.specs.pg_base.declared.id.FileId.{FileId}
-use Rattle.law_contents.specs.pg_base.declared.policy.Policy.TheVariants.{Last}
-use Rattle.law_contents.specs.pg_edges.declared.edge.Edge.{Edge}
-use Rattle.law_contents.specs.pg_intent.declared.key.IntentKey.TheVariants as intent_key
-use Rattle.law_contents.specs.pg_msg.declared.message.Message.TheVariants as message
-use Rattle.law_contents.specs.pg_msg.declared.update.Update.{Update}
-use Rattle.law_contents.specs.pg_msg.declared.update.Update.TheVariants as update
-use Rattle.law_contents.specs.pg_msg.declared.work.Work.{Work}
-use Rattle.law_contents.specs.pg_msg.Work.{with_made}
-use Rattle.law_contents.specs.pg_names.declared.attributes.Attributes.{Attributes}
-use Rattle.law_contents.specs.pg_names.Names.{blank_own, is_dir, is_full_of}
-use Rattle.law_contents.proofs.pg_names.Holding.{begun_same}
-use Rattle.law_contents.specs.pg_register.declared.flag.Flag.{Flag}
-use Rattle.law_contents.specs.pg_register.declared.place.Place.{Place}
-use Rattle.law_contents.specs.pg_store.declared.store.Store.{Store}
-use Rattle.law_contents.specs.pg_store.Beginning.{patches_of, put_new}
-use Rattle.law_contents.specs.pg_store.Births.{draw_birth, with_birth}
-use Rattle.law_contents.specs.pg_store.Store.{is_full, is_held}
-use Rattle.law_contents.specs.pg_store.Together.{AreTogether, HoldsAsBefore, birth_at}
-use Rattle.law_contents.specs.pg_store.Views.{enter}
-use Rattle.law_contents.proofs.pg_store.Pairs.{birth_as_before, ended_as_before, patches_as_before, then_as_before, together_as_before}
-use Rattle.law_contents.specs.pg_pieces.Accepting.{ends_to}
-use Rattle.law_contents.specs.pg_pieces.Done.{Done, idle}
-use Rattle.law_contents.specs.pg_intentions.Inviting.{invite_along, invite_each, invite_of, invites, loose_edge}
-use Rattle.law_contents.specs.pg_calls.Forgetting.{bare_entry, begin_lost, begun_at, begun_with, dead_at, dirs_of, fill_lost, filled, forget_lost, has_blank_place, is_wanted, last_listing, last_place, mark, marked_each, placed_in_root, root_place, strike_out, struck_out, unfilled, unwished}
-use Rattle.law_contents.specs.pg_calls.GivingUp.{doubt_all, enter_view}
-use Rattle.law_contents.specs.pg_calls.Making.{make_place}
-use Rattle.law_contents.specs.pg_calls.Naming.{raised}
-use Rattle.law_contents.proofs.theory_flood_pieces.Choices.{chosen, decided}
+use Rattle.law_frame.specs.pg_run.pg_base.declared.id.FileId.{FileId}
+use Rattle.law_frame.specs.pg_run.pg_base.declared.policy.Policy.TheVariants.{Last}
+use Rattle.law_frame.specs.pg_run.pg_edges.declared.edge.Edge.{Edge}
+use Rattle.law_frame.specs.pg_run.pg_intent.declared.key.IntentKey.TheVariants as intent_key
+use Rattle.law_frame.specs.pg_run.pg_msg.declared.message.Message.TheVariants as message
+use Rattle.law_frame.specs.pg_run.pg_msg.declared.update.Update.{Update}
+use Rattle.law_frame.specs.pg_run.pg_msg.declared.update.Update.TheVariants as update
+use Rattle.law_frame.specs.pg_run.pg_msg.declared.work.Work.{Work}
+use Rattle.law_frame.specs.pg_run.pg_msg.Work.{with_made}
+use Rattle.law_frame.specs.pg_run.pg_names.declared.attributes.Attributes.{Attributes}
+use Rattle.law_frame.specs.pg_run.pg_names.Names.{blank_own, is_dir, is_full_of}
+use Rattle.law_frame.proofs.pg_run.pg_names.Holding.{begun_same}
+use Rattle.law_frame.specs.pg_run.pg_register.declared.flag.Flag.{Flag}
+use Rattle.law_frame.specs.pg_run.pg_register.declared.place.Place.{Place}
+use Rattle.law_frame.specs.pg_run.pg_store.declared.store.Store.{Store}
+use Rattle.law_frame.specs.pg_run.pg_store.Beginning.{patches_of, put_new}
+use Rattle.law_frame.specs.pg_run.pg_store.Births.{draw_birth, with_birth}
+use Rattle.law_frame.specs.pg_run.pg_store.Store.{is_full, is_held}
+use Rattle.law_frame.specs.pg_run.pg_store.Together.{AreTogether, HoldsAsBefore, birth_at}
+use Rattle.law_frame.specs.pg_run.pg_store.Views.{enter}
+use Rattle.law_frame.proofs.pg_run.pg_store.Pairs.{birth_as_before, ended_as_before, patches_as_before, then_as_before, together_as_before}
+use Rattle.law_frame.specs.pg_run.pg_pieces.Accepting.{ends_to}
+use Rattle.law_frame.specs.pg_run.pg_pieces.Done.{Done, idle}
+use Rattle.law_frame.specs.pg_run.pg_intentions.Inviting.{invite_along, invite_each, invite_of, invites, loose_edge}
+use Rattle.law_frame.specs.pg_run.pg_calls.Forgetting.{bare_entry, begin_lost, begun_at, begun_with, dead_at, dirs_of, fill_lost, filled, forget_lost, has_blank_place, is_wanted, last_listing, last_place, mark, marked_each, placed_in_root, root_place, strike_out, struck_out, unfilled, unwished}
+use Rattle.law_frame.specs.pg_run.pg_calls.GivingUp.{doubt_all, enter_view}
+use Rattle.law_frame.specs.pg_run.pg_calls.Making.{make_place}
+use Rattle.law_frame.specs.pg_run.pg_calls.Naming.{raised}
+use Rattle.law_frame.proofs.pg_run.theory_flood_pieces.Choices.{chosen, decided}
 use Rattle.law_births.specs.Flags.{AnyBye}
 use Rattle.law_births.proofs.Begins.{begin_back}
 use Rattle.law_births.proofs.EnterSays.{say_enter}
@@ -43,7 +43,7 @@ use Rattle.law_golds.proofs.Filling.{MayGo, fill_fine, own_of_full, still}
 use Rattle.law_golds.proofs.Fine.{IsFine, NoFlags, fine_flag, no_flags}
 use Rattle.law_golds.proofs.Kept.{GoesOn, begin_flags, begun_births, flags_on, goes_further, place_flags, same_goes_on}
 use Rattle.law_golds.proofs.Says.{Says, said_entry, said_last, said_on, said_place}
-use Rattle.law_contents.proofs.pg_run.Still.{still as nothing_more}
+use Rattle.law_frame.proofs.pg_run.Still.{still as nothing_more}
 
 -- a place is no flag
 pub place_no_flag : (file : FileId) (place : Place) → NoFlags (update.Place file place ∷ [])

@@ -3,29 +3,29 @@ use Rattle.std.proofs.Common.{ℕ, ◌≡◌, ◌≢◌, ◌⊎◌, ◌==◌, no
 use Rattle.std.specs.Prelude.{Contains}
 use Rattle.std.specs.List.{IsAmong, list_any}
 use Rattle.std.proofs.lemmas.Bool.{and_parts, ne_eqb, and_from, not_from_false}
-use Rattle.law_contents.specs.pg_base.declared.id.FileId.{FileId}
-use Rattle.law_contents.specs.pg_content.Content.{Among}
-use Rattle.law_contents.proofs.pg_content.Members.{any_by, any_found}
-use Rattle.law_contents.specs.pg_edges.declared.edge.Edge.{Edge}
-use Rattle.law_contents.specs.pg_edges.Edges.{is_listed}
-use Rattle.law_contents.specs.pg_house.Facts.{AreByServer}
-use Rattle.law_contents.specs.pg_names.Names.{InodeValue, or_blank, own_of}
-use Rattle.law_contents.specs.pg_register.declared.flag.Flag.{Flag}
-use Rattle.law_contents.specs.pg_register.Flag.{IsByServer, is_live, is_live_other, is_raised, is_removed}
-use Rattle.law_contents.specs.pg_pieces.Golds.{flags_of, is_gold}
-use Rattle.law_contents.specs.pg_graph.Walks.{edges_of}
-use Rattle.law_contents.specs.pg_intentions.Seeks.{has_gold_apart, has_gold_edge, is_apart, is_seeking, matches}
-use Rattle.law_contents.specs.pg_replica.declared.replica.Replica.{Replica}
-use Rattle.law_contents.specs.pg_replica.Replicas.{or_nothing}
-use Rattle.law_contents.specs.pg_store.declared.store.Store.{Store}
-use Rattle.law_contents.specs.pg_store.Births.{birth_of}
-use Rattle.law_contents.specs.pg_store.Seen.{removed_of, server_of}
-use Rattle.law_contents.specs.pg_store.Store.{is_held}
-use Rattle.law_contents.specs.pg_run.Golds.{HasReplica, IsGold, IsLiveGold, NamesAGold, NamesGolds, NamesOne, ReplicasNameGolds, Seeks}
-use Rattle.law_contents.specs.pg_run.Intending.{IntentionsAreInOrder, SeeksStand}
-use Rattle.law_contents.specs.pg_run.Run.{run}
-use Rattle.law_contents.proofs.pg_run.Found.{listed_edge}
-use Rattle.law_contents.proofs.pg_run.Lists.{among_contained, contained_among}
+use Rattle.law_frame.specs.pg_run.pg_base.declared.id.FileId.{FileId}
+use Rattle.law_frame.specs.pg_run.pg_content.Content.{Among}
+use Rattle.law_frame.proofs.pg_run.pg_content.Members.{any_by, any_found}
+use Rattle.law_frame.specs.pg_run.pg_edges.declared.edge.Edge.{Edge}
+use Rattle.law_frame.specs.pg_run.pg_edges.Edges.{is_listed}
+use Rattle.law_frame.specs.pg_run.pg_house.Facts.{AreByServer}
+use Rattle.law_frame.specs.pg_run.pg_names.Names.{InodeValue, or_blank, own_of}
+use Rattle.law_frame.specs.pg_run.pg_register.declared.flag.Flag.{Flag}
+use Rattle.law_frame.specs.pg_run.pg_register.Flag.{IsByServer, is_live, is_live_other, is_raised, is_removed}
+use Rattle.law_frame.specs.pg_run.pg_pieces.Golds.{flags_of, is_gold}
+use Rattle.law_frame.specs.pg_run.pg_graph.Walks.{edges_of}
+use Rattle.law_frame.specs.pg_run.pg_intentions.Seeks.{has_gold_apart, has_gold_edge, is_apart, is_seeking, matches}
+use Rattle.law_frame.specs.pg_run.pg_replica.declared.replica.Replica.{Replica}
+use Rattle.law_frame.specs.pg_run.pg_replica.Replicas.{or_nothing}
+use Rattle.law_frame.specs.pg_run.pg_store.declared.store.Store.{Store}
+use Rattle.law_frame.specs.pg_run.pg_store.Births.{birth_of}
+use Rattle.law_frame.specs.pg_run.pg_store.Seen.{removed_of, server_of}
+use Rattle.law_frame.specs.pg_run.pg_store.Store.{is_held}
+use Rattle.law_frame.specs.pg_run.Golds.{HasReplica, IsGold, IsLiveGold, NamesAGold, NamesGolds, NamesOne, ReplicasNameGolds, Seeks}
+use Rattle.law_frame.specs.pg_run.Intending.{IntentionsAreInOrder, SeeksStand}
+use Rattle.law_frame.specs.pg_run.Run.{run}
+use Rattle.law_frame.proofs.pg_run.Found.{listed_edge}
+use Rattle.law_frame.proofs.pg_run.Lists.{among_contained, contained_among}
 use Rattle.law_contents.proofs.law_order.Runs.{sound_run}
 use Rattle.law_golds.proofs.Flags.{one_raised, raised_one}
 

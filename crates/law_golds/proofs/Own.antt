@@ -4,27 +4,27 @@ use Rattle.std.proofs.Common.{ℕ, ◌≡◌, ◌≤◌, ◌<◌, ◌==◌, ◌+
 use Rattle.std.specs.Prelude.{nat_lt}
 use Rattle.std.proofs.lemmas.Bool.Decides.{nat_tests}
 use Rattle.std.proofs.lemmas.Option.{same_Some}
-use Rattle.law_contents.specs.pg_base.declared.id.FileId.{FileId}
-use Rattle.law_contents.specs.pg_base.Id.{is_same_file}
-use Rattle.law_contents.proofs.pg_base.Orders.{is_same_file-true}
-use Rattle.law_contents.specs.pg_names.declared.attributes.Attributes.{Attributes}
-use Rattle.law_contents.specs.pg_names.Names.{is_flag_new, or_blank, own_at}
-use Rattle.law_contents.proofs.pg_names.Lookups.{flag_other, flag_same}
-use Rattle.law_contents.specs.pg_register.declared.flag.Flag.{Flag}
-use Rattle.law_contents.specs.pg_register.Flag.{flag_of, is_new, newest, number_with}
-use Rattle.law_contents.proofs.pg_register.ByServer.{flag_of-join_flag}
-use Rattle.law_contents.specs.pg_store.declared.store.Store.{Store}
-use Rattle.law_contents.specs.pg_store.Births.{birth_of}
-use Rattle.law_contents.specs.pg_store.Seen.{server_of}
-use Rattle.law_contents.specs.pg_store.Store.{is_newer_flag, put_flag, take_flag}
-use Rattle.law_contents.specs.pg_store.Together.{birth_at}
-use Rattle.law_contents.specs.pg_pieces.Making.{own_next}
-use Rattle.law_contents.specs.theory_flood_pieces.UpTo.{IsFlagKnownBy}
-use Rattle.law_contents.proofs.theory_flood_pieces.Choices.{decided}
-use Rattle.law_contents.specs.pg_run.Known.{IsUpToOwn}
+use Rattle.law_frame.specs.pg_run.pg_base.declared.id.FileId.{FileId}
+use Rattle.law_frame.specs.pg_run.pg_base.Id.{is_same_file}
+use Rattle.law_frame.proofs.pg_run.pg_base.Orders.{is_same_file-true}
+use Rattle.law_frame.specs.pg_run.pg_names.declared.attributes.Attributes.{Attributes}
+use Rattle.law_frame.specs.pg_run.pg_names.Names.{is_flag_new, or_blank, own_at}
+use Rattle.law_frame.proofs.pg_run.pg_names.Lookups.{flag_other, flag_same}
+use Rattle.law_frame.specs.pg_run.pg_register.declared.flag.Flag.{Flag}
+use Rattle.law_frame.specs.pg_run.pg_register.Flag.{flag_of, is_new, newest, number_with}
+use Rattle.law_frame.proofs.pg_run.pg_register.ByServer.{flag_of-join_flag}
+use Rattle.law_frame.specs.pg_run.pg_store.declared.store.Store.{Store}
+use Rattle.law_frame.specs.pg_run.pg_store.Births.{birth_of}
+use Rattle.law_frame.specs.pg_run.pg_store.Seen.{server_of}
+use Rattle.law_frame.specs.pg_run.pg_store.Store.{is_newer_flag, put_flag, take_flag}
+use Rattle.law_frame.specs.pg_run.pg_store.Together.{birth_at}
+use Rattle.law_frame.specs.pg_run.pg_pieces.Making.{own_next}
+use Rattle.law_frame.specs.pg_run.theory_flood_pieces.UpTo.{IsFlagKnownBy}
+use Rattle.law_frame.proofs.pg_run.theory_flood_pieces.Choices.{decided}
+use Rattle.law_frame.specs.pg_run.Known.{IsUpToOwn}
 use Rattle.law_births.proofs.Here.{birth_is}
 use Rattle.law_births.proofs.Pieces.{flag_stays}
-use Rattle.law_contents.proofs.pg_store.Over.{moves_as_before}
+use Rattle.law_frame.proofs.pg_run.pg_store.Over.{moves_as_before}
 use Rattle.law_golds.proofs.Kept.{GoesOn, IsPast, flags_at, newly_of, past_by}
 
 -- a flag of server s, which has this store, is up to its own flag of the thing, of the birth that

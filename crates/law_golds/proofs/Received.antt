@@ -5,37 +5,37 @@ use Rattle.std.proofs.lemmas.List.Elements.{All-contains}
 use Rattle.std.proofs.lemmas.Option.{none-some}
 use Rattle.law_births.proofs.StoreSays.{entry_says, intends_says, own_says, say_acknowledge, say_aimed, say_begin, say_ended, say_fill, say_let_go, say_unlink}
 use Rattle.law_births.specs.Flags.{AnyBye, SaysEntry, SaysIntent, SaysMessage, SaysStore}
-use Rattle.law_contents.proofs.pg_run.Still.{begun_still, still}
-use Rattle.law_contents.proofs.theory_flood_pieces.Choices.{chosen}
-use Rattle.law_contents.specs.pg_base.declared.id.FileId.{FileId}
-use Rattle.law_contents.specs.pg_edges.declared.edge.Edge.{Edge}
-use Rattle.law_contents.specs.pg_graph.Leaving.{bye_to, without_leave}
-use Rattle.law_contents.specs.pg_graph.Walks.{edges_of, most_hops, walk_along, walk_from, walk_of, walk_of_tick, with_few_edges}
-use Rattle.law_contents.specs.pg_intent.Intent.{key_of}
-use Rattle.law_contents.specs.pg_intent.Intents.{aimed, ended, stands}
-use Rattle.law_contents.specs.pg_intent.declared.intent.Intent.{Intent}
-use Rattle.law_contents.specs.pg_intent.declared.key.IntentKey.TheVariants as intent_key
-use Rattle.law_contents.specs.pg_msg.declared.message.Granted.{Granted}
-use Rattle.law_contents.specs.pg_msg.declared.message.Message.{Message}
-use Rattle.law_contents.specs.pg_msg.declared.message.Message.TheVariants as message
-use Rattle.law_contents.specs.pg_msg.declared.summary.Greeting.TheVariants as greeting
-use Rattle.law_contents.specs.pg_msg.declared.update.Update.{Update}
-use Rattle.law_contents.specs.pg_msg.declared.work.Work.{Work}
-use Rattle.law_contents.specs.pg_names.Names.{fill as fill_names}
-use Rattle.law_contents.specs.pg_pieces.Accepting.{ends_to}
-use Rattle.law_contents.specs.pg_pieces.Done.{Done, idle, link_of}
-use Rattle.law_contents.specs.pg_pieces.Intending.{begin_intent}
-use Rattle.law_contents.specs.pg_register.declared.flag.Flag.{Flag}
-use Rattle.law_contents.specs.pg_repair.Granting.{begun_by, granted_own}
-use Rattle.law_contents.specs.pg_server.Local.{receive}
-use Rattle.law_contents.specs.pg_server.pg_transfer.Asking.{with_notes}
-use Rattle.law_contents.specs.pg_store.Beginning.{let_go, with_intents}
-use Rattle.law_contents.specs.pg_store.Births.{birth_of, with_wishes}
-use Rattle.law_contents.specs.pg_store.Links.{unlink}
-use Rattle.law_contents.specs.pg_store.Store.{acknowledge, keep_delta, with_names}
-use Rattle.law_contents.specs.pg_store.Wishes.{aim_wish}
-use Rattle.law_contents.specs.pg_store.declared.store.Store.{Store}
-use Rattle.law_contents.specs.pg_store.Seen.{server_of}
+use Rattle.law_frame.proofs.pg_run.Still.{begun_still, still}
+use Rattle.law_frame.proofs.pg_run.theory_flood_pieces.Choices.{chosen}
+use Rattle.law_frame.specs.pg_run.pg_base.declared.id.FileId.{FileId}
+use Rattle.law_frame.specs.pg_run.pg_edges.declared.edge.Edge.{Edge}
+use Rattle.law_frame.specs.pg_run.pg_graph.Leaving.{bye_to, without_leave}
+use Rattle.law_frame.specs.pg_run.pg_graph.Walks.{edges_of, most_hops, walk_along, walk_from, walk_of, walk_of_tick, with_few_edges}
+use Rattle.law_frame.specs.pg_run.pg_intent.Intent.{key_of}
+use Rattle.law_frame.specs.pg_run.pg_intent.Intents.{aimed, ended, stands}
+use Rattle.law_frame.specs.pg_run.pg_intent.declared.intent.Intent.{Intent}
+use Rattle.law_frame.specs.pg_run.pg_intent.declared.key.IntentKey.TheVariants as intent_key
+use Rattle.law_frame.specs.pg_run.pg_msg.declared.message.Granted.{Granted}
+use Rattle.law_frame.specs.pg_run.pg_msg.declared.message.Message.{Message}
+use Rattle.law_frame.specs.pg_run.pg_msg.declared.message.Message.TheVariants as message
+use Rattle.law_frame.specs.pg_run.pg_msg.declared.summary.Greeting.TheVariants as greeting
+use Rattle.law_frame.specs.pg_run.pg_msg.declared.update.Update.{Update}
+use Rattle.law_frame.specs.pg_run.pg_msg.declared.work.Work.{Work}
+use Rattle.law_frame.specs.pg_run.pg_names.Names.{fill as fill_names}
+use Rattle.law_frame.specs.pg_run.pg_pieces.Accepting.{ends_to}
+use Rattle.law_frame.specs.pg_run.pg_pieces.Done.{Done, idle, link_of}
+use Rattle.law_frame.specs.pg_run.pg_pieces.Intending.{begin_intent}
+use Rattle.law_frame.specs.pg_run.pg_register.declared.flag.Flag.{Flag}
+use Rattle.law_frame.specs.pg_run.pg_repair.Granting.{begun_by, granted_own}
+use Rattle.law_frame.specs.pg_run.pg_server.Local.{receive}
+use Rattle.law_frame.specs.pg_run.pg_server.pg_transfer.Asking.{with_notes}
+use Rattle.law_frame.specs.pg_run.pg_store.Beginning.{let_go, with_intents}
+use Rattle.law_frame.specs.pg_run.pg_store.Births.{birth_of, with_wishes}
+use Rattle.law_frame.specs.pg_run.pg_store.Links.{unlink}
+use Rattle.law_frame.specs.pg_run.pg_store.Store.{acknowledge, keep_delta, with_names}
+use Rattle.law_frame.specs.pg_run.pg_store.Wishes.{aim_wish}
+use Rattle.law_frame.specs.pg_run.pg_store.declared.store.Store.{Store}
+use Rattle.law_frame.specs.pg_run.pg_store.Seen.{server_of}
 use Rattle.law_frame.proofs.Keeps.{Answers, Keeps, raising}
 use Rattle.law_frame.proofs.Received.{receive_keeps}
 use Rattle.law_golds.proofs.Says.{Says, said_entry, said_entry_cell, said_flag, said_last, said_link, said_on, said_place, said_post, said_version}

@@ -1,17 +1,17 @@
 -- The laws of flags.
 use Rattle.std.proofs.Common.{ℕ, ◌≡◌, ◌⊎◌, List, Option, Some, inl, inr, subst}
-use Rattle.law_contents.proofs.pg_content.Members.{all_among}
-use Rattle.law_contents.specs.pg_event.declared.event.Event.{Event}
-use Rattle.law_contents.specs.pg_register.Flag.{flag_of}
-use Rattle.law_contents.specs.pg_names.declared.attributes.Attributes.{Attributes}
-use Rattle.law_contents.specs.pg_names.Names.{or_blank}
-use Rattle.law_contents.specs.pg_store.Together.{IsOver}
-use Rattle.law_contents.specs.pg_run.Grown.{EventsGrow}
-use Rattle.law_contents.specs.pg_run.Journal.{mail}
-use Rattle.law_contents.specs.pg_run.Births.{BirthsMoveInEvents}
-use Rattle.law_contents.specs.pg_run.Known.{FlagsAreOwn, FlagsHaveOwnNumbers, IsFlagOf, IsOwnFlag}
-use Rattle.law_contents.specs.pg_run.Run.{run}
-use Rattle.law_contents.proofs.pg_run.Lists.{contained_among}
+use Rattle.law_frame.proofs.pg_run.pg_content.Members.{all_among}
+use Rattle.law_frame.specs.pg_run.pg_event.declared.event.Event.{Event}
+use Rattle.law_frame.specs.pg_run.pg_register.Flag.{flag_of}
+use Rattle.law_frame.specs.pg_run.pg_names.declared.attributes.Attributes.{Attributes}
+use Rattle.law_frame.specs.pg_run.pg_names.Names.{or_blank}
+use Rattle.law_frame.specs.pg_run.pg_store.Together.{IsOver}
+use Rattle.law_frame.specs.pg_run.Grown.{EventsGrow}
+use Rattle.law_frame.specs.pg_run.Journal.{mail}
+use Rattle.law_frame.specs.pg_run.Births.{BirthsMoveInEvents}
+use Rattle.law_frame.specs.pg_run.Known.{FlagsAreOwn, FlagsHaveOwnNumbers, IsFlagOf, IsOwnFlag}
+use Rattle.law_frame.specs.pg_run.Run.{run}
+use Rattle.law_frame.proofs.pg_run.Lists.{contained_among}
 use Rattle.law_contents.specs.Together.{HoldBoth}
 use Rattle.law_golds.specs.Laws.{FlagsAreKnown}
 use Rattle.law_golds.specs.Premises.{FirstEffectsAreWhole, NextIdsAreAway}

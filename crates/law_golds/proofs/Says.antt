@@ -2,31 +2,31 @@
 -- none.
 use Rattle.std.proofs.Common.{ℕ, ◌≡◌, ◌||◌, Bool, cond, List, All, sym, subst, ◌∙◌}
 use Rattle.std.proofs.lemmas.List.Elements.{All-push}
-use Rattle.law_contents.specs.pg_base.declared.id.FileId.{FileId}
-use Rattle.law_contents.specs.pg_base.Version.{VersionValue}
-use Rattle.law_contents.specs.pg_entries.declared.entry.Entry.{Entry}
-use Rattle.law_contents.specs.pg_msg.declared.message.Ends.{Ends}
-use Rattle.law_contents.specs.pg_msg.declared.message.Message.{Message}
-use Rattle.law_contents.specs.pg_msg.declared.message.Message.TheVariants as message
-use Rattle.law_contents.specs.pg_msg.declared.message.Sent.{Sent}
-use Rattle.law_contents.specs.pg_msg.declared.update.Update.{Update}
-use Rattle.law_contents.specs.pg_msg.declared.work.Work.{Work}
-use Rattle.law_contents.specs.pg_msg.Work.{with_tail}
-use Rattle.law_contents.specs.pg_register.declared.flag.Flag.{Flag}
-use Rattle.law_contents.specs.pg_register.declared.place.Place.{Place}
-use Rattle.law_contents.specs.pg_store.declared.store.Store.{Store}
-use Rattle.law_contents.specs.pg_store.Births.{has_birth, is_pending}
-use Rattle.law_contents.specs.pg_store.Links.{knows_later}
-use Rattle.law_contents.specs.pg_pieces.declared.accepting.EdgeUse.{EdgeUse}
-use Rattle.law_contents.specs.pg_pieces.declared.accepting.EdgeUse.TheVariants as manner
-use Rattle.law_contents.specs.pg_pieces.Accepting.{accept, is_answer, link_peer, with_gone}
-use Rattle.law_contents.specs.pg_pieces.Done.{Done, idle}
-use Rattle.law_contents.specs.pg_pieces.Posting.{post, reply, sent_to}
-use Rattle.law_contents.specs.pg_pieces.Taking.{take_entry_cell, take_entry_noted, take_flag_noted, take_place_noted, take_version_noted}
-use Rattle.law_contents.proofs.theory_flood_pieces.Choices.{chosen}
+use Rattle.law_frame.specs.pg_run.pg_base.declared.id.FileId.{FileId}
+use Rattle.law_frame.specs.pg_run.pg_base.Version.{VersionValue}
+use Rattle.law_frame.specs.pg_run.pg_entries.declared.entry.Entry.{Entry}
+use Rattle.law_frame.specs.pg_run.pg_msg.declared.message.Ends.{Ends}
+use Rattle.law_frame.specs.pg_run.pg_msg.declared.message.Message.{Message}
+use Rattle.law_frame.specs.pg_run.pg_msg.declared.message.Message.TheVariants as message
+use Rattle.law_frame.specs.pg_run.pg_msg.declared.message.Sent.{Sent}
+use Rattle.law_frame.specs.pg_run.pg_msg.declared.update.Update.{Update}
+use Rattle.law_frame.specs.pg_run.pg_msg.declared.work.Work.{Work}
+use Rattle.law_frame.specs.pg_run.pg_msg.Work.{with_tail}
+use Rattle.law_frame.specs.pg_run.pg_register.declared.flag.Flag.{Flag}
+use Rattle.law_frame.specs.pg_run.pg_register.declared.place.Place.{Place}
+use Rattle.law_frame.specs.pg_run.pg_store.declared.store.Store.{Store}
+use Rattle.law_frame.specs.pg_run.pg_store.Births.{has_birth, is_pending}
+use Rattle.law_frame.specs.pg_run.pg_store.Links.{knows_later}
+use Rattle.law_frame.specs.pg_run.pg_pieces.declared.accepting.EdgeUse.{EdgeUse}
+use Rattle.law_frame.specs.pg_run.pg_pieces.declared.accepting.EdgeUse.TheVariants as manner
+use Rattle.law_frame.specs.pg_run.pg_pieces.Accepting.{accept, is_answer, link_peer, with_gone}
+use Rattle.law_frame.specs.pg_run.pg_pieces.Done.{Done, idle}
+use Rattle.law_frame.specs.pg_run.pg_pieces.Posting.{post, reply, sent_to}
+use Rattle.law_frame.specs.pg_run.pg_pieces.Taking.{take_entry_cell, take_entry_noted, take_flag_noted, take_place_noted, take_version_noted}
+use Rattle.law_frame.proofs.pg_run.theory_flood_pieces.Choices.{chosen}
 use Rattle.law_births.specs.Flags.{AnyBye, SaysEntry, SaysMessage, SaysStore}
 use Rattle.law_births.proofs.StoreSays.{say_entry, say_flag, say_link, say_place, say_version}
-use Rattle.law_contents.proofs.pg_run.Still.{IsStill, doubted_still, entry_still, flag_still, linked_still, place_still, version_still}
+use Rattle.law_frame.proofs.pg_run.Still.{IsStill, doubted_still, entry_still, flag_still, linked_still, place_still, version_still}
 
 -- it is said of what a message brings
 abbrev pub SaysSent : (FileId → Flag → Type 0) → Sent → Type 0

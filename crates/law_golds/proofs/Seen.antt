@@ -4,25 +4,25 @@ use Rattle.std.specs.Prelude.{Contains}
 use Rattle.std.specs.List.{IsAmong}
 use Rattle.std.proofs.lemmas.Bool.{false≢true}
 use Rattle.std.proofs.lemmas.Bool.Decides.{nat_tests}
-use Rattle.law_contents.specs.pg_base.declared.id.FileId.{FileId}
-use Rattle.law_contents.proofs.pg_content.Members.{any_found}
-use Rattle.law_contents.specs.pg_event.declared.event.Event.{Event}
-use Rattle.law_contents.specs.pg_names.Names.{InodeValue, known, own_of}
-use Rattle.law_contents.specs.pg_register.declared.flag.Flag.{Flag}
-use Rattle.law_contents.specs.pg_register.Flag.{flag_of, is_live}
-use Rattle.law_contents.specs.pg_replica.declared.replica.Replica.{Replica}
-use Rattle.law_contents.specs.pg_replica.Replicas.{or_nothing}
-use Rattle.law_contents.specs.pg_store.declared.store.Store.{Store}
-use Rattle.law_contents.specs.pg_store.Births.{birth_of}
-use Rattle.law_contents.specs.pg_store.Seen.{removed_of, server_of}
-use Rattle.law_contents.specs.pg_store.Store.{replica_at}
-use Rattle.law_contents.specs.pg_pieces.Golds.{is_goldless, is_goldless_held, is_of_later, sees_gold}
-use Rattle.law_contents.specs.theory_flood_pieces.Whole.{IsWhole}
-use Rattle.law_contents.specs.pg_run.Births.{BirthsAreAlone, BirthsAreKnown, WasGivenOut}
-use Rattle.law_contents.specs.pg_run.Golds.{FullSeeGold, IsLiveGold}
-use Rattle.law_contents.specs.pg_run.Run.{run}
-use Rattle.law_contents.proofs.pg_run.Found.{flag_found}
-use Rattle.law_contents.proofs.pg_run.Lists.{among_contained}
+use Rattle.law_frame.specs.pg_run.pg_base.declared.id.FileId.{FileId}
+use Rattle.law_frame.proofs.pg_run.pg_content.Members.{any_found}
+use Rattle.law_frame.specs.pg_run.pg_event.declared.event.Event.{Event}
+use Rattle.law_frame.specs.pg_run.pg_names.Names.{InodeValue, known, own_of}
+use Rattle.law_frame.specs.pg_run.pg_register.declared.flag.Flag.{Flag}
+use Rattle.law_frame.specs.pg_run.pg_register.Flag.{flag_of, is_live}
+use Rattle.law_frame.specs.pg_run.pg_replica.declared.replica.Replica.{Replica}
+use Rattle.law_frame.specs.pg_run.pg_replica.Replicas.{or_nothing}
+use Rattle.law_frame.specs.pg_run.pg_store.declared.store.Store.{Store}
+use Rattle.law_frame.specs.pg_run.pg_store.Births.{birth_of}
+use Rattle.law_frame.specs.pg_run.pg_store.Seen.{removed_of, server_of}
+use Rattle.law_frame.specs.pg_run.pg_store.Store.{replica_at}
+use Rattle.law_frame.specs.pg_run.pg_pieces.Golds.{is_goldless, is_goldless_held, is_of_later, sees_gold}
+use Rattle.law_frame.specs.pg_run.theory_flood_pieces.Whole.{IsWhole}
+use Rattle.law_frame.specs.pg_run.Births.{BirthsAreAlone, BirthsAreKnown, WasGivenOut}
+use Rattle.law_frame.specs.pg_run.Golds.{FullSeeGold, IsLiveGold}
+use Rattle.law_frame.specs.pg_run.Run.{run}
+use Rattle.law_frame.proofs.pg_run.Found.{flag_found}
+use Rattle.law_frame.proofs.pg_run.Lists.{among_contained}
 
 -- nothing sees no live gold, but where the server's flag is of a later birth
 abbrev pub NoneGoldless : Store → Type 0

@@ -2,47 +2,47 @@
 use Rattle.std.proofs.Common.{ℕ, ◌≡◌, ◌≤◌, ◌&&◌, not, Bool, true, false, cond, zero, suc, List, [], ◌∷◌, ◌++◌, drop, length, Option, None, Some, refl, sym, ap, subst, ◌∙◌, All, arith}
 use Rattle.std.proofs.lemmas.Bool.{false≢true}
 use Rattle.std.proofs.lemmas.List.Elements.{All-nil}
-use Rattle.law_contents.specs.pg_base.declared.id.FileId.{FileId}
-use Rattle.law_contents.specs.pg_base.Id.{is_same_file}
-use Rattle.law_contents.proofs.pg_content.Members.{all_among, any_by}
-use Rattle.law_contents.specs.pg_event.declared.event.Event.{Event}
-use Rattle.law_contents.proofs.theory_flood.Flood.{after_itself}
-use Rattle.law_contents.specs.pg_house.Facts.{AreByServer, AreOrdered, IsLast, IsOfDirs}
-use Rattle.law_contents.specs.pg_house.House.{house}
-use Rattle.law_contents.specs.pg_house.Work.{state_of}
-use Rattle.law_contents.proofs.pg_house.Keys.{rules_by}
-use Rattle.law_contents.specs.pg_msg.Work.{new_work}
-use Rattle.law_contents.specs.pg_names.Names.{NamesValue, new_held, new_names}
-use Rattle.law_contents.proofs.pg_names.Holding.{begun_known}
-use Rattle.law_contents.specs.pg_register.declared.flag.Flag.{Flag}
-use Rattle.law_contents.specs.pg_register.Flag.{flag_of, is_live, is_removed}
-use Rattle.law_contents.specs.pg_register.Place.{root}
-use Rattle.law_contents.specs.pg_replica.Replicas.{ByFile, or_nothing, replica_in}
-use Rattle.law_contents.proofs.pg_calls.Late.{late_does_nothing}
-use Rattle.law_contents.proofs.pg_intentions.Steady.{begin_end_stays}
-use Rattle.law_contents.specs.pg_server.declared.input.Input.{Input}
-use Rattle.law_contents.specs.pg_server.declared.input.Input.TheVariants as input
-use Rattle.law_contents.specs.pg_server.Local.{effect, first_effect, intended, receive, settled, takes_effect, ticked}
-use Rattle.law_contents.specs.pg_store.declared.store.Store.{Store}
-use Rattle.law_contents.specs.pg_store.Births.{birth_of}
-use Rattle.law_contents.specs.pg_store.Seen.{removed_of, server_of}
-use Rattle.law_contents.specs.pg_store.Start.{first_flag, first_flags, root_own}
-use Rattle.law_contents.specs.pg_store.Store.{is_before_clock_end, new_store, with_names}
-use Rattle.law_contents.specs.pg_pieces.Done.{Done, idle}
-use Rattle.law_contents.specs.pg_pieces.Golds.{is_goldless_held, sees_gold}
-use Rattle.law_contents.proofs.pg_cells.Calmed.{none_goldless, settle_golds}
-use Rattle.law_contents.proofs.pg_cells.Ruled.{touched_names}
-use Rattle.law_contents.specs.theory_flood_pieces.UpTo.{IsFlagKnownBy}
-use Rattle.law_contents.specs.theory_flood_pieces.Whole.{IsWhole}
-use Rattle.law_contents.proofs.theory_flood_pieces.Choices.{chosen, decided}
-use Rattle.law_contents.proofs.theory_flood_pieces.Flags.{flag_there}
-use Rattle.law_contents.specs.pg_run.Births.{BirthsAreAlone, BirthsAreKnown}
-use Rattle.law_contents.specs.pg_run.Golds.{FullReplicasSeeGold}
-use Rattle.law_contents.specs.pg_run.Views.{ViewsArePrefixes}
-use Rattle.law_contents.specs.pg_run.Run.{Taking, World, effect_step, run, start, taking_in, world_after}
-use Rattle.law_contents.proofs.pg_run.Event.{store_is}
-use Rattle.law_contents.proofs.pg_run.Found.{flag_found}
-use Rattle.law_contents.proofs.pg_run.Frame.{Acts, each_after, holds_in_runs, next_is, no_server_comes, run_more}
+use Rattle.law_frame.specs.pg_run.pg_base.declared.id.FileId.{FileId}
+use Rattle.law_frame.specs.pg_run.pg_base.Id.{is_same_file}
+use Rattle.law_frame.proofs.pg_run.pg_content.Members.{all_among, any_by}
+use Rattle.law_frame.specs.pg_run.pg_event.declared.event.Event.{Event}
+use Rattle.law_frame.proofs.pg_run.theory_flood.Flood.{after_itself}
+use Rattle.law_frame.specs.pg_run.pg_house.Facts.{AreByServer, AreOrdered, IsLast, IsOfDirs}
+use Rattle.law_frame.specs.pg_run.pg_house.House.{house}
+use Rattle.law_frame.specs.pg_run.pg_house.Work.{state_of}
+use Rattle.law_frame.proofs.pg_run.pg_house.Keys.{rules_by}
+use Rattle.law_frame.specs.pg_run.pg_msg.Work.{new_work}
+use Rattle.law_frame.specs.pg_run.pg_names.Names.{NamesValue, new_held, new_names}
+use Rattle.law_frame.proofs.pg_run.pg_names.Holding.{begun_known}
+use Rattle.law_frame.specs.pg_run.pg_register.declared.flag.Flag.{Flag}
+use Rattle.law_frame.specs.pg_run.pg_register.Flag.{flag_of, is_live, is_removed}
+use Rattle.law_frame.specs.pg_run.pg_register.Place.{root}
+use Rattle.law_frame.specs.pg_run.pg_replica.Replicas.{ByFile, or_nothing, replica_in}
+use Rattle.law_frame.proofs.pg_run.pg_calls.Late.{late_does_nothing}
+use Rattle.law_frame.proofs.pg_run.pg_intentions.Steady.{begin_end_stays}
+use Rattle.law_frame.specs.pg_run.pg_server.declared.input.Input.{Input}
+use Rattle.law_frame.specs.pg_run.pg_server.declared.input.Input.TheVariants as input
+use Rattle.law_frame.specs.pg_run.pg_server.Local.{effect, first_effect, intended, receive, settled, takes_effect, ticked}
+use Rattle.law_frame.specs.pg_run.pg_store.declared.store.Store.{Store}
+use Rattle.law_frame.specs.pg_run.pg_store.Births.{birth_of}
+use Rattle.law_frame.specs.pg_run.pg_store.Seen.{removed_of, server_of}
+use Rattle.law_frame.specs.pg_run.pg_store.Start.{first_flag, first_flags, root_own}
+use Rattle.law_frame.specs.pg_run.pg_store.Store.{is_before_clock_end, new_store, with_names}
+use Rattle.law_frame.specs.pg_run.pg_pieces.Done.{Done, idle}
+use Rattle.law_frame.specs.pg_run.pg_pieces.Golds.{is_goldless_held, sees_gold}
+use Rattle.law_frame.proofs.pg_run.pg_cells.Calmed.{none_goldless, settle_golds}
+use Rattle.law_frame.proofs.pg_run.pg_cells.Ruled.{touched_names}
+use Rattle.law_frame.specs.pg_run.theory_flood_pieces.UpTo.{IsFlagKnownBy}
+use Rattle.law_frame.specs.pg_run.theory_flood_pieces.Whole.{IsWhole}
+use Rattle.law_frame.proofs.pg_run.theory_flood_pieces.Choices.{chosen, decided}
+use Rattle.law_frame.proofs.pg_run.theory_flood_pieces.Flags.{flag_there}
+use Rattle.law_frame.specs.pg_run.Births.{BirthsAreAlone, BirthsAreKnown}
+use Rattle.law_frame.specs.pg_run.Golds.{FullReplicasSeeGold}
+use Rattle.law_frame.specs.pg_run.Views.{ViewsArePrefixes}
+use Rattle.law_frame.specs.pg_run.Run.{Taking, World, effect_step, run, start, taking_in, world_after}
+use Rattle.law_frame.proofs.pg_run.Event.{store_is}
+use Rattle.law_frame.proofs.pg_run.Found.{flag_found}
+use Rattle.law_frame.proofs.pg_run.Frame.{Acts, each_after, holds_in_runs, next_is, no_server_comes, run_more}
 use Rattle.law_contents.proofs.law_order.FlagsSay.{all_join}
 use Rattle.law_contents.proofs.law_order.Runs.{first_ordered, first_runs, sound_run}
 use Rattle.law_golds.proofs.Seen.{NoneGoldless, full_see_gold, goldless_alike}

@@ -3,31 +3,31 @@ use Rattle.std.proofs.Common.{ℕ, ◌≡◌, Bool, List, Option, None, Some, Al
 use Rattle.std.specs.Prelude.{nat_lt}
 use Rattle.std.specs.List.{flat_map}
 use Rattle.std.proofs.lemmas.List.Elements.{All-weaker}
-use Rattle.law_contents.specs.pg_base.declared.id.FileId.{FileId}
-use Rattle.law_contents.specs.pg_base.Version.{VersionValue}
-use Rattle.law_contents.specs.pg_edges.declared.key.Key.{Key}
-use Rattle.law_contents.specs.pg_edges.declared.key.Key.TheVariants as key
-use Rattle.law_contents.specs.pg_entries.declared.cell.Cell.{Cell}
-use Rattle.law_contents.specs.pg_entries.declared.cell.Cell.TheVariants as cells
-use Rattle.law_contents.specs.pg_entries.declared.entry.Entry.{Entry}
-use Rattle.law_contents.specs.pg_intent.declared.intent.Intent.{Intent}
-use Rattle.law_contents.specs.pg_intent.declared.intent.Intent.TheVariants as intent
-use Rattle.law_contents.specs.pg_intent.declared.key.IntentKey.{IntentKey}
-use Rattle.law_contents.specs.pg_msg.declared.message.Ends.{Ends}
-use Rattle.law_contents.specs.pg_msg.declared.message.Message.{Message}
-use Rattle.law_contents.specs.pg_msg.declared.message.Message.TheVariants as message
-use Rattle.law_contents.specs.pg_names.declared.attributes.Attributes.{Attributes}
-use Rattle.law_contents.specs.pg_names.Names.{cell_at as entry_at, own_at, own_or_blank}
-use Rattle.law_contents.specs.pg_register.declared.flag.Flag.{Flag}
-use Rattle.law_contents.specs.pg_register.Flag.{flag_of}
-use Rattle.law_contents.specs.pg_store.declared.store.Store.{Store}
-use Rattle.law_contents.specs.pg_store.Births.{birth_of}
-use Rattle.law_contents.specs.pg_store.Cells.{cell_at, entry_cell, flag_cell, is_sure, version_cell}
-use Rattle.law_contents.specs.pg_cells.Sending.{Wanted, cells_where, told_as}
-use Rattle.law_contents.specs.pg_intentions.Requests.{asks, asks_by, bye_message, confirm_message, leave_message}
-use Rattle.law_contents.proofs.theory_flood_pieces.Choices.{chosen}
-use Rattle.law_contents.proofs.pg_run.Bags.{All-every}
-use Rattle.law_contents.proofs.pg_run.Event.{AskHas, CellHas, asks_by_have, asks_have, cells_have}
+use Rattle.law_frame.specs.pg_run.pg_base.declared.id.FileId.{FileId}
+use Rattle.law_frame.specs.pg_run.pg_base.Version.{VersionValue}
+use Rattle.law_frame.specs.pg_run.pg_edges.declared.key.Key.{Key}
+use Rattle.law_frame.specs.pg_run.pg_edges.declared.key.Key.TheVariants as key
+use Rattle.law_frame.specs.pg_run.pg_entries.declared.cell.Cell.{Cell}
+use Rattle.law_frame.specs.pg_run.pg_entries.declared.cell.Cell.TheVariants as cells
+use Rattle.law_frame.specs.pg_run.pg_entries.declared.entry.Entry.{Entry}
+use Rattle.law_frame.specs.pg_run.pg_intent.declared.intent.Intent.{Intent}
+use Rattle.law_frame.specs.pg_run.pg_intent.declared.intent.Intent.TheVariants as intent
+use Rattle.law_frame.specs.pg_run.pg_intent.declared.key.IntentKey.{IntentKey}
+use Rattle.law_frame.specs.pg_run.pg_msg.declared.message.Ends.{Ends}
+use Rattle.law_frame.specs.pg_run.pg_msg.declared.message.Message.{Message}
+use Rattle.law_frame.specs.pg_run.pg_msg.declared.message.Message.TheVariants as message
+use Rattle.law_frame.specs.pg_run.pg_names.declared.attributes.Attributes.{Attributes}
+use Rattle.law_frame.specs.pg_run.pg_names.Names.{cell_at as entry_at, own_at, own_or_blank}
+use Rattle.law_frame.specs.pg_run.pg_register.declared.flag.Flag.{Flag}
+use Rattle.law_frame.specs.pg_run.pg_register.Flag.{flag_of}
+use Rattle.law_frame.specs.pg_run.pg_store.declared.store.Store.{Store}
+use Rattle.law_frame.specs.pg_run.pg_store.Births.{birth_of}
+use Rattle.law_frame.specs.pg_run.pg_store.Cells.{cell_at, entry_cell, flag_cell, is_sure, version_cell}
+use Rattle.law_frame.specs.pg_run.pg_cells.Sending.{Wanted, cells_where, told_as}
+use Rattle.law_frame.specs.pg_run.pg_intentions.Requests.{asks, asks_by, bye_message, confirm_message, leave_message}
+use Rattle.law_frame.proofs.pg_run.theory_flood_pieces.Choices.{chosen}
+use Rattle.law_frame.proofs.pg_run.Bags.{All-every}
+use Rattle.law_frame.proofs.pg_run.Event.{AskHas, CellHas, asks_by_have, asks_have, cells_have}
 use Rattle.law_births.specs.Flags.{AnyBye, SaysCell, SaysEntry, SaysIntent, SaysMessage, SaysStore}
 use Rattle.law_births.proofs.Joined.{found_says}
 use Rattle.law_births.proofs.StoreSays.{own_says}

@@ -4,42 +4,42 @@ use Rattle.std.proofs.Common.{ℕ, ◌≡◌, ◌==◌, zero, suc, Bool, true, f
 use Rattle.std.specs.Option.{option_map}
 use Rattle.std.proofs.lemmas.Bool.{eqb-true}
 use Rattle.std.proofs.lemmas.List.Elements.{All-append, All-nil}
-use Rattle.law_contents.specs.pg_base.declared.id.FileId.{FileId}
-use Rattle.law_contents.specs.pg_base.Id.{file_cmp}
-use Rattle.law_contents.proofs.pg_base.Maps.{lookup-insert_entry}
-use Rattle.law_contents.proofs.pg_base.Orders.{file_total, is_same_file-refl}
-use Rattle.law_contents.specs.pg_content.Content.{Among}
-use Rattle.law_contents.proofs.pg_content.Members.{all_among, among_all}
-use Rattle.law_contents.specs.pg_entries.declared.entry.Entry.{Entry}
-use Rattle.law_contents.specs.pg_event.declared.entry.VoidCause.{VoidCause}
-use Rattle.law_contents.specs.pg_event.declared.event.Event.{Event}
-use Rattle.law_contents.proofs.theory_flood.Flood.{after_itself}
-use Rattle.law_contents.specs.pg_msg.declared.message.Sent.{Sent}
-use Rattle.law_contents.specs.pg_msg.declared.update.Update.TheVariants as update
-use Rattle.law_contents.specs.pg_names.declared.attributes.Attributes.{Attributes}
-use Rattle.law_contents.specs.pg_names.Names.{new_names, or_blank, own_of}
-use Rattle.law_contents.proofs.pg_names.Holding.{begun_same}
-use Rattle.law_contents.specs.pg_register.declared.flag.Flag.{Flag}
-use Rattle.law_contents.specs.pg_register.Flag.{flag_of}
-use Rattle.law_contents.specs.pg_register.Place.{root}
-use Rattle.law_contents.specs.pg_replica.declared.replica.Replica.{Replica}
-use Rattle.law_contents.specs.pg_replica.Root.{first_root}
-use Rattle.law_contents.specs.pg_store.declared.store.Store.{Store}
-use Rattle.law_contents.specs.pg_store.Start.{first_flag, first_flags, root_own}
-use Rattle.law_contents.specs.pg_store.Store.{new_store}
-use Rattle.law_contents.specs.pg_store.Together.{AreTogether, birth_at}
-use Rattle.law_contents.specs.pg_server.declared.input.Input.{Input}
-use Rattle.law_contents.specs.pg_server.declared.input.Input.TheVariants as input
-use Rattle.law_contents.specs.pg_server.Local.{Effect, effect, first_effect}
-use Rattle.law_contents.specs.pg_run.Births.{BirthsMoveInEvents}
-use Rattle.law_contents.specs.pg_run.Going.{FlagsAreMadeWhereHeld}
-use Rattle.law_contents.specs.pg_run.Grown.{EventsGrow}
-use Rattle.law_contents.specs.pg_run.Journal.{mail}
-use Rattle.law_contents.specs.pg_run.Known.{IsFlagOf}
-use Rattle.law_contents.specs.pg_run.Run.{Taking, World, effect_step, idle_step, run, start, taking_in, world_after}
-use Rattle.law_contents.proofs.pg_run.Event.{Comes, effect_is, end_of, store_is}
-use Rattle.law_contents.proofs.pg_run.Frame.{Acts, HasCome, acts_is, each_after, holds_in_runs, no_server_comes}
-use Rattle.law_contents.proofs.pg_run.Lists.{contained_among}
+use Rattle.law_frame.specs.pg_run.pg_base.declared.id.FileId.{FileId}
+use Rattle.law_frame.specs.pg_run.pg_base.Id.{file_cmp}
+use Rattle.law_frame.proofs.pg_run.pg_base.Maps.{lookup-insert_entry}
+use Rattle.law_frame.proofs.pg_run.pg_base.Orders.{file_total, is_same_file-refl}
+use Rattle.law_frame.specs.pg_run.pg_content.Content.{Among}
+use Rattle.law_frame.proofs.pg_run.pg_content.Members.{all_among, among_all}
+use Rattle.law_frame.specs.pg_run.pg_entries.declared.entry.Entry.{Entry}
+use Rattle.law_frame.specs.pg_run.pg_event.declared.entry.VoidCause.{VoidCause}
+use Rattle.law_frame.specs.pg_run.pg_event.declared.event.Event.{Event}
+use Rattle.law_frame.proofs.pg_run.theory_flood.Flood.{after_itself}
+use Rattle.law_frame.specs.pg_run.pg_msg.declared.message.Sent.{Sent}
+use Rattle.law_frame.specs.pg_run.pg_msg.declared.update.Update.TheVariants as update
+use Rattle.law_frame.specs.pg_run.pg_names.declared.attributes.Attributes.{Attributes}
+use Rattle.law_frame.specs.pg_run.pg_names.Names.{new_names, or_blank, own_of}
+use Rattle.law_frame.proofs.pg_run.pg_names.Holding.{begun_same}
+use Rattle.law_frame.specs.pg_run.pg_register.declared.flag.Flag.{Flag}
+use Rattle.law_frame.specs.pg_run.pg_register.Flag.{flag_of}
+use Rattle.law_frame.specs.pg_run.pg_register.Place.{root}
+use Rattle.law_frame.specs.pg_run.pg_replica.declared.replica.Replica.{Replica}
+use Rattle.law_frame.specs.pg_run.pg_replica.Root.{first_root}
+use Rattle.law_frame.specs.pg_run.pg_store.declared.store.Store.{Store}
+use Rattle.law_frame.specs.pg_run.pg_store.Start.{first_flag, first_flags, root_own}
+use Rattle.law_frame.specs.pg_run.pg_store.Store.{new_store}
+use Rattle.law_frame.specs.pg_run.pg_store.Together.{AreTogether, birth_at}
+use Rattle.law_frame.specs.pg_run.pg_server.declared.input.Input.{Input}
+use Rattle.law_frame.specs.pg_run.pg_server.declared.input.Input.TheVariants as input
+use Rattle.law_frame.specs.pg_run.pg_server.Local.{Effect, effect, first_effect}
+use Rattle.law_frame.specs.pg_run.Births.{BirthsMoveInEvents}
+use Rattle.law_frame.specs.pg_run.Going.{FlagsAreMadeWhereHeld}
+use Rattle.law_frame.specs.pg_run.Grown.{EventsGrow}
+use Rattle.law_frame.specs.pg_run.Journal.{mail}
+use Rattle.law_frame.specs.pg_run.Known.{IsFlagOf}
+use Rattle.law_frame.specs.pg_run.Run.{Taking, World, effect_step, idle_step, run, start, taking_in, world_after}
+use Rattle.law_frame.proofs.pg_run.Event.{Comes, effect_is, end_of, store_is}
+use Rattle.law_frame.proofs.pg_run.Frame.{Acts, HasCome, acts_is, each_after, holds_in_runs, no_server_comes}
+use Rattle.law_frame.proofs.pg_run.Lists.{contained_among}
 use Rattle.law_births.specs.Flags.{AnyBye, SaysIntent, SaysStore}
 use Rattle.law_births.proofs.Joined.{join_all}
 use Rattle.law_births.proofs.NamesSay.{says_begin}

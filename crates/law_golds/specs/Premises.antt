@@ -1,13 +1,13 @@
 -- What is asked of runs here, that other laws give.
 use Rattle.std.specs.Prelude.{ℕ, ◌≡◌, false, List, Some}
-use Rattle.law_contents.specs.pg_base.declared.id.Kind.{Kind}
-use Rattle.law_contents.specs.pg_calls.Naming.{next_id}
-use Rattle.law_contents.specs.pg_event.declared.event.Event.{Event}
-use Rattle.law_contents.specs.theory_flood_pieces.Whole.{IsWhole}
-use Rattle.law_contents.specs.pg_run.Laws.{AtEach, store_after}
-use Rattle.law_contents.specs.pg_run.Run.{Taking, run, taking_in}
-use Rattle.law_contents.specs.pg_server.Local.{first_effect}
-use Rattle.law_contents.specs.pg_store.Store.{is_held}
+use Rattle.law_frame.specs.pg_run.pg_base.declared.id.Kind.{Kind}
+use Rattle.law_frame.specs.pg_run.pg_calls.Naming.{next_id}
+use Rattle.law_frame.specs.pg_run.pg_event.declared.event.Event.{Event}
+use Rattle.law_frame.specs.pg_run.theory_flood_pieces.Whole.{IsWhole}
+use Rattle.law_frame.specs.pg_run.Laws.{AtEach, store_after}
+use Rattle.law_frame.specs.pg_run.Run.{Taking, run, taking_in}
+use Rattle.law_frame.specs.pg_run.pg_server.Local.{first_effect}
+use Rattle.law_frame.specs.pg_run.pg_store.Store.{is_held}
 
 -- servers are whole behind the first effect of each input, before the house rules
 abbrev pub FirstEffectsAreWhole : ℕ → Type 0

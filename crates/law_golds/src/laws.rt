@@ -4,13 +4,13 @@ ghost use Rattle.std.specs.Prelude.{ℕ};
 ghost use Rattle.law_contents.specs.Together.{HoldBoth};
 ghost use Rattle.law_golds.specs.Laws.{FlagsAreKnown};
 ghost use Rattle.law_golds.specs.Premises.{FirstEffectsAreWhole, NextIdsAreAway};
-ghost use Rattle.law_contents.specs.pg_run.Births.{BirthsAreAlone, BirthsAreKnown, BirthsMoveInEvents};
-ghost use Rattle.law_contents.specs.pg_run.Going.{FlagsAreMadeWhereHeld};
-ghost use Rattle.law_contents.specs.pg_run.Grown.{EventsGrow};
-ghost use Rattle.law_contents.specs.pg_run.Known.{FlagsAreOwn, FlagsHaveOwnNumbers};
-ghost use Rattle.law_contents.specs.pg_run.Golds.{FullReplicasSeeGold, ReplicasNameGolds};
-ghost use Rattle.law_contents.specs.pg_run.Intending.{IntentionsAreInOrder};
-ghost use Rattle.law_contents.specs.pg_run.Views.{ViewsArePrefixes};
+ghost use Rattle.law_frame.specs.pg_run.Births.{BirthsAreAlone, BirthsAreKnown, BirthsMoveInEvents};
+ghost use Rattle.law_frame.specs.pg_run.Going.{FlagsAreMadeWhereHeld};
+ghost use Rattle.law_frame.specs.pg_run.Grown.{EventsGrow};
+ghost use Rattle.law_frame.specs.pg_run.Known.{FlagsAreOwn, FlagsHaveOwnNumbers};
+ghost use Rattle.law_frame.specs.pg_run.Golds.{FullReplicasSeeGold, ReplicasNameGolds};
+ghost use Rattle.law_frame.specs.pg_run.Intending.{IntentionsAreInOrder};
+ghost use Rattle.law_frame.specs.pg_run.Views.{ViewsArePrefixes};
 
 /// Each flag of a thing, wherever it is known, is its server's own flag, or an earlier one of the
 /// same birth, or its birth is over: no two of them have one number. And it was made in the run, by

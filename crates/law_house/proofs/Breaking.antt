@@ -1,26 +1,26 @@
 -- Broken cycles as steps: the least of the latest members moves, each time.
 use Rattle.std.proofs.Common.{◌≡◌, ℕ, zero, suc, ◌&&◌, true, false, not, List, length, Option, None, Some, refl, sym, ap, ◌∙◌, subst, inl, inr}
 use Rattle.std.proofs.lemmas.Bool.{and_parts, false≢true, not-true}
-use Rattle.law_order.specs.pg_run.pg_base.declared.id.FileId.{FileId}
-use Rattle.law_order.specs.pg_run.pg_base.Id.{is_same_file}
-use Rattle.law_order.specs.pg_run.pg_entries.declared.entry.Entry.{Entry}
-use Rattle.law_order.specs.pg_run.pg_entries.Entry.{is_listed}
-use Rattle.law_order.specs.pg_run.pg_house.Cycles.{break_first, first_moving, moved}
-use Rattle.law_order.specs.pg_run.pg_house.Facts.{NoDeadLists}
-use Rattle.law_order.specs.pg_run.pg_house.Passing.{is_in}
-use Rattle.law_order.specs.pg_run.pg_house.Placing.{drawn, live_place, placed, repeated}
-use Rattle.law_order.specs.pg_run.pg_house.Returning.{is_dead}
-use Rattle.law_order.specs.pg_run.pg_house.Work.{State, is_root}
-use Rattle.law_order.specs.pg_run.pg_names.declared.attributes.Attributes.{Attributes}
-use Rattle.law_order.specs.pg_run.pg_names.Names.{NamesValue, cell_at, directories, is_dir, own_at}
-use Rattle.law_order.specs.pg_run.pg_register.declared.place.Place.{Place}
-use Rattle.law_order.specs.pg_run.pg_register.Place.{root, tilde_name}
-use Rattle.law_order.proofs.pg_run.pg_base.Orders.{is_same_file-true}
-use Rattle.law_order.proofs.pg_run.pg_house.AllReturned.{not_dead}
-use Rattle.law_order.proofs.pg_run.pg_house.NoCycles.{IsLive, KeepsAll, inner_parts}
-use Rattle.law_order.proofs.pg_run.pg_house.Placed.{placed_cells, placed_is_last, placed_own, placed_settled, placed_touches}
-use Rattle.law_order.proofs.pg_run.pg_house.Truths.{bool_cases}
-use Rattle.law_order.proofs.pg_run.pg_names.Lookups.{apart_back}
+use Rattle.pg_run.specs.pg_base.declared.id.FileId.{FileId}
+use Rattle.pg_run.specs.pg_base.Id.{is_same_file}
+use Rattle.pg_run.specs.pg_entries.declared.entry.Entry.{Entry}
+use Rattle.pg_run.specs.pg_entries.Entry.{is_listed}
+use Rattle.pg_run.specs.pg_house.Cycles.{break_first, first_moving, moved}
+use Rattle.pg_run.specs.pg_house.Facts.{NoDeadLists}
+use Rattle.pg_run.specs.pg_house.Passing.{is_in}
+use Rattle.pg_run.specs.pg_house.Placing.{drawn, live_place, placed, repeated}
+use Rattle.pg_run.specs.pg_house.Returning.{is_dead}
+use Rattle.pg_run.specs.pg_house.Work.{State, is_root}
+use Rattle.pg_run.specs.pg_names.declared.attributes.Attributes.{Attributes}
+use Rattle.pg_run.specs.pg_names.Names.{NamesValue, cell_at, directories, is_dir, own_at}
+use Rattle.pg_run.specs.pg_register.declared.place.Place.{Place}
+use Rattle.pg_run.specs.pg_register.Place.{root, tilde_name}
+use Rattle.pg_run.proofs.pg_base.Orders.{is_same_file-true}
+use Rattle.pg_run.proofs.pg_house.AllReturned.{not_dead}
+use Rattle.pg_run.proofs.pg_house.NoCycles.{IsLive, KeepsAll, inner_parts}
+use Rattle.pg_run.proofs.pg_house.Placed.{placed_cells, placed_is_last, placed_own, placed_settled, placed_touches}
+use Rattle.pg_run.proofs.pg_house.Truths.{bool_cases}
+use Rattle.pg_run.proofs.pg_names.Lookups.{apart_back}
 use Rattle.law_house.specs.Standing.{IsLeastLatest, IsWhoMoves}
 use Rattle.law_house.specs.Steps.{NoneReturns}
 use Rattle.law_house.proofs.Climbing.{round_of}

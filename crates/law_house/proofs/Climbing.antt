@@ -1,15 +1,15 @@
 -- Steps up, as the rules count them and in words of their own; and what a cycle is.
 use Rattle.std.proofs.Common.{◌≡◌, ℕ, zero, suc, ◌<◌, ◌+◌, true, not, refl, sym, ap, ◌∙◌, subst, arith, inl, inr}
 use Rattle.std.proofs.lemmas.Bool.{and_from, and_parts, cases_lt, not_from_false}
-use Rattle.law_order.specs.pg_run.pg_base.declared.id.FileId.{FileId}
-use Rattle.law_order.specs.pg_run.pg_house.Cycles.{above, climb, is_inner, is_live_own}
-use Rattle.law_order.specs.pg_run.pg_house.Placing.{place_at, place_of}
-use Rattle.law_order.specs.pg_run.pg_house.Work.{is_root}
-use Rattle.law_order.specs.pg_run.pg_names.Names.{NamesValue, is_dir}
-use Rattle.law_order.specs.pg_run.pg_register.Place.{root}
-use Rattle.law_order.proofs.pg_run.pg_house.AllClimb.{above_one, climb_add, cycle_lost, inner_below}
-use Rattle.law_order.proofs.pg_run.pg_house.NoCycles.{inner_parts}
-use Rattle.law_order.proofs.pg_run.pg_house.Truths.{chosen_true}
+use Rattle.pg_run.specs.pg_base.declared.id.FileId.{FileId}
+use Rattle.pg_run.specs.pg_house.Cycles.{above, climb, is_inner, is_live_own}
+use Rattle.pg_run.specs.pg_house.Placing.{place_at, place_of}
+use Rattle.pg_run.specs.pg_house.Work.{is_root}
+use Rattle.pg_run.specs.pg_names.Names.{NamesValue, is_dir}
+use Rattle.pg_run.specs.pg_register.Place.{root}
+use Rattle.pg_run.proofs.pg_house.AllClimb.{above_one, climb_add, cycle_lost, inner_below}
+use Rattle.pg_run.proofs.pg_house.NoCycles.{inner_parts}
+use Rattle.pg_run.proofs.pg_house.Truths.{chosen_true}
 use Rattle.law_house.specs.Standing.{IsInCycle, LeadsTo, StandsIn}
 
 module _ (s : NamesValue) where

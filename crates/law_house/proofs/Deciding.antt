@@ -3,19 +3,19 @@ use Rattle.std.proofs.Common.{◌≡◌, ◌≢◌, ℕ, ◌<◌, Bool, true, fa
 use Rattle.std.proofs.lemmas.Bool.{false≢true}
 use Rattle.std.proofs.lemmas.List.{length-append}
 use Rattle.std.proofs.lemmas.Option.{none-some, same_Some}
-use Rattle.law_order.specs.pg_run.pg_base.declared.id.FileId.{FileId}
-use Rattle.law_order.specs.pg_run.pg_edges.declared.key.Key.TheVariants as key
-use Rattle.law_order.specs.pg_run.pg_house.Facts.{HasPassed}
-use Rattle.law_order.specs.pg_run.pg_house.Passing.{gets, given, greatest, is_held_back, offered, own_taken, pass, pass_own, passed, spread, took}
-use Rattle.law_order.specs.pg_run.pg_house.Work.{State}
-use Rattle.law_order.specs.pg_run.pg_names.declared.attributes.Attributes.{Attributes}
-use Rattle.law_order.specs.pg_run.pg_names.Names.{directories, own_at}
-use Rattle.law_order.specs.pg_run.pg_names.Same.{is_same_own}
-use Rattle.law_order.proofs.pg_run.pg_house.AfterPassing.{after_own}
-use Rattle.law_order.proofs.pg_run.pg_house.Idle.{AreHeld, pass_idle}
-use Rattle.law_order.proofs.pg_run.pg_house.Settling.{dirs_held}
-use Rattle.law_order.proofs.pg_run.pg_house.Truths.{chosen_false, chosen_true}
-use Rattle.law_order.proofs.pg_run.pg_names.Alike.{own-refl}
+use Rattle.pg_run.specs.pg_base.declared.id.FileId.{FileId}
+use Rattle.pg_run.specs.pg_edges.declared.key.Key.TheVariants as key
+use Rattle.pg_run.specs.pg_house.Facts.{HasPassed}
+use Rattle.pg_run.specs.pg_house.Passing.{gets, given, greatest, is_held_back, offered, own_taken, pass, pass_own, passed, spread, took}
+use Rattle.pg_run.specs.pg_house.Work.{State}
+use Rattle.pg_run.specs.pg_names.declared.attributes.Attributes.{Attributes}
+use Rattle.pg_run.specs.pg_names.Names.{directories, own_at}
+use Rattle.pg_run.specs.pg_names.Same.{is_same_own}
+use Rattle.pg_run.proofs.pg_house.AfterPassing.{after_own}
+use Rattle.pg_run.proofs.pg_house.Idle.{AreHeld, pass_idle}
+use Rattle.pg_run.proofs.pg_house.Settling.{dirs_held}
+use Rattle.pg_run.proofs.pg_house.Truths.{chosen_false, chosen_true}
+use Rattle.pg_run.proofs.pg_names.Alike.{own-refl}
 use Rattle.law_house.specs.Steps.{Passes}
 
 -- ---- what is noted of keys grows, or nothing changed

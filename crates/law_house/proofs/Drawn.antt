@@ -1,16 +1,16 @@
 -- The stamp that a rule draws is the next; and a dead place that was made is told by its test.
 use Rattle.std.proofs.Common.{ℕ, ◌≡◌, ◌≢◌, ◌≤◌, ◌<◌, ◌+◌, ◌^◌, ◌&&◌, Bool, true, false, max, min, not, refl, sym, ap, ◌∙◌, arith}
 use Rattle.std.proofs.lemmas.Bool.{and_from, and_parts, false≢true, not-true, not_from_false}
-use Rattle.law_order.specs.pg_run.pg_base.declared.id.FileId.{FileId}
-use Rattle.law_order.specs.pg_run.pg_base.Id.{is_same_file}
-use Rattle.law_order.specs.pg_run.pg_base.Stamp.{is_before}
-use Rattle.law_order.specs.pg_run.pg_house.Placing.{drawn}
-use Rattle.law_order.specs.pg_run.pg_house.Returning.{is_dead}
-use Rattle.law_order.specs.pg_run.pg_house.Work.{is_root}
-use Rattle.law_order.specs.pg_run.pg_names.Names.{NamesValue}
-use Rattle.law_order.specs.pg_run.pg_register.declared.place.Place.{Place}
-use Rattle.law_order.specs.pg_run.pg_register.Place.{first_stamp, root}
-use Rattle.law_order.proofs.pg_run.pg_base.Orders.{UpTo-same, is_before-false, is_same_file-refl, is_same_file-true}
+use Rattle.pg_run.specs.pg_base.declared.id.FileId.{FileId}
+use Rattle.pg_run.specs.pg_base.Id.{is_same_file}
+use Rattle.pg_run.specs.pg_base.Stamp.{is_before}
+use Rattle.pg_run.specs.pg_house.Placing.{drawn}
+use Rattle.pg_run.specs.pg_house.Returning.{is_dead}
+use Rattle.pg_run.specs.pg_house.Work.{is_root}
+use Rattle.pg_run.specs.pg_names.Names.{NamesValue}
+use Rattle.pg_run.specs.pg_register.declared.place.Place.{Place}
+use Rattle.pg_run.specs.pg_register.Place.{first_stamp, root}
+use Rattle.pg_run.proofs.pg_base.Orders.{UpTo-same, is_before-false, is_same_file-refl, is_same_file-true}
 use Rattle.law_house.specs.Steps.{IsDrawn}
 
 -- ---- a time that is drawn

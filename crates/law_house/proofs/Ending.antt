@@ -7,22 +7,22 @@ use Rattle.std.specs.declared.cmp.Ordering.{Ordering}
 use Rattle.std.specs.declared.cmp.Ordering.TheVariants.{Less, Equal, Greater}
 use Rattle.std.proofs.lemmas.Bool.{false≢true, not-true, not_from_false}
 use Rattle.std.proofs.lemmas.List.Kept.{IsStrictlySortedBy-filter}
-use Rattle.law_order.specs.pg_run.pg_base.declared.id.FileId.{FileId}
-use Rattle.law_order.specs.pg_run.pg_base.Id.{file_cmp}
-use Rattle.law_order.specs.pg_run.pg_house.Facts.{AreOrdered, HasPassed, is_among}
-use Rattle.law_order.specs.pg_run.pg_house.House.{house, movable}
-use Rattle.law_order.specs.pg_run.pg_house.Passing.{pass, pass_all}
-use Rattle.law_order.specs.pg_run.pg_house.Placing.{place_at}
-use Rattle.law_order.specs.pg_run.pg_house.Work.{State, is_root}
-use Rattle.law_order.specs.pg_run.pg_names.declared.attributes.Attributes.{Attributes}
-use Rattle.law_order.specs.pg_run.pg_names.Names.{directories, is_dir, own_at}
-use Rattle.law_order.specs.pg_run.pg_register.Place.{root, tilde_name}
-use Rattle.law_order.proofs.pg_run.pg_base.Orders.{file_exact}
-use Rattle.law_order.proofs.pg_run.pg_house.Counting.{among_kept, kept_dir}
-use Rattle.law_order.proofs.pg_run.pg_house.Ends.{One, Two, first_dirs, key_of_held, no_cycle, one_last, one_settled, two_all}
-use Rattle.law_order.proofs.pg_run.pg_house.Ordered.{pass_ordered}
-use Rattle.law_order.proofs.pg_run.pg_house.Passes.{all_pass}
-use Rattle.law_order.proofs.pg_run.pg_house.Truths.{bool_cases}
+use Rattle.pg_run.specs.pg_base.declared.id.FileId.{FileId}
+use Rattle.pg_run.specs.pg_base.Id.{file_cmp}
+use Rattle.pg_run.specs.pg_house.Facts.{AreOrdered, HasPassed, is_among}
+use Rattle.pg_run.specs.pg_house.House.{house, movable}
+use Rattle.pg_run.specs.pg_house.Passing.{pass, pass_all}
+use Rattle.pg_run.specs.pg_house.Placing.{place_at}
+use Rattle.pg_run.specs.pg_house.Work.{State, is_root}
+use Rattle.pg_run.specs.pg_names.declared.attributes.Attributes.{Attributes}
+use Rattle.pg_run.specs.pg_names.Names.{directories, is_dir, own_at}
+use Rattle.pg_run.specs.pg_register.Place.{root, tilde_name}
+use Rattle.pg_run.proofs.pg_base.Orders.{file_exact}
+use Rattle.pg_run.proofs.pg_house.Counting.{among_kept, kept_dir}
+use Rattle.pg_run.proofs.pg_house.Ends.{One, Two, first_dirs, key_of_held, no_cycle, one_last, one_settled, two_all}
+use Rattle.pg_run.proofs.pg_house.Ordered.{pass_ordered}
+use Rattle.pg_run.proofs.pg_house.Passes.{all_pass}
+use Rattle.pg_run.proofs.pg_house.Truths.{bool_cases}
 use Rattle.law_house.specs.Steps.{AreFit, EndsIn, HouseGoesBySteps, IsAtEnd, IsStep, StepsTo, made_live}
 use Rattle.law_house.proofs.Breaking.{KeptAll, all_break, none_returns}
 use Rattle.law_house.proofs.Climbing.{round_of}

@@ -8,21 +8,21 @@ use Rattle.std.proofs.lemmas.Bool.{false≢true}
 use Rattle.std.proofs.lemmas.Bool.Decides.{nat_tests}
 use Rattle.std.proofs.lemmas.Cmp.{upto}
 use Rattle.std.proofs.lemmas.Option.{none-some, same_Some}
-use Rattle.law_order.specs.pg_run.pg_base.declared.id.FileId.{FileId}
-use Rattle.law_order.specs.pg_run.pg_base.declared.stamp.Stamp.{Stamp}
-use Rattle.law_order.specs.pg_run.pg_base.Id.{file_cmp, is_same_file}
-use Rattle.law_order.specs.pg_run.pg_base.Stamp.{is_before}
-use Rattle.law_order.specs.pg_run.pg_house.Cycles.{above, climb, first_moving, is_inner, is_lost, later, latest, latest_member, least, least_moving}
-use Rattle.law_order.specs.pg_run.pg_house.Facts.{is_among}
-use Rattle.law_order.specs.pg_run.pg_house.Placing.{place_at}
-use Rattle.law_order.specs.pg_run.pg_names.Names.{NamesValue, directories, is_dir}
-use Rattle.law_order.proofs.pg_run.pg_base.Orders.{file_total, is_same_file-true}
-use Rattle.law_order.proofs.pg_run.pg_house.AllClimb.{climb_add, inner_below, latest_has, moving_member, none_lost}
-use Rattle.law_order.proofs.pg_run.pg_house.Counting.{among_kept}
-use Rattle.law_order.proofs.pg_run.pg_house.Ends.{key_of_held}
-use Rattle.law_order.proofs.pg_run.pg_house.NoCycles.{inner_parts}
-use Rattle.law_order.proofs.pg_run.pg_house.Truths.{bool_cases, chosen_false, chosen_true, or_cases}
-use Rattle.law_order.proofs.pg_run.Pigeons.{twice}
+use Rattle.pg_run.specs.pg_base.declared.id.FileId.{FileId}
+use Rattle.pg_run.specs.pg_base.declared.stamp.Stamp.{Stamp}
+use Rattle.pg_run.specs.pg_base.Id.{file_cmp, is_same_file}
+use Rattle.pg_run.specs.pg_base.Stamp.{is_before}
+use Rattle.pg_run.specs.pg_house.Cycles.{above, climb, first_moving, is_inner, is_lost, later, latest, latest_member, least, least_moving}
+use Rattle.pg_run.specs.pg_house.Facts.{is_among}
+use Rattle.pg_run.specs.pg_house.Placing.{place_at}
+use Rattle.pg_run.specs.pg_names.Names.{NamesValue, directories, is_dir}
+use Rattle.pg_run.proofs.pg_base.Orders.{file_total, is_same_file-true}
+use Rattle.pg_run.proofs.pg_house.AllClimb.{climb_add, inner_below, latest_has, moving_member, none_lost}
+use Rattle.pg_run.proofs.pg_house.Counting.{among_kept}
+use Rattle.pg_run.proofs.pg_house.Ends.{key_of_held}
+use Rattle.pg_run.proofs.pg_house.NoCycles.{inner_parts}
+use Rattle.pg_run.proofs.pg_house.Truths.{bool_cases, chosen_false, chosen_true, or_cases}
+use Rattle.pg_run.proofs.Pigeons.{twice}
 use Rattle.law_house.specs.Standing.{IsLatestInCycle, IsWhoMoves, LeadsTo}
 use Rattle.law_house.proofs.Climbing.{Round, again, all_inner, climbed, in_cycle, leads, round_at, round_of, within}
 

@@ -2,21 +2,21 @@
 use Rattle.std.proofs.Common.{◌≡◌, ℕ, true, false, List, refl, ap, ◌∙◌, subst, inl, inr}
 use Rattle.std.specs.List.{filter}
 use Rattle.std.specs.Ordering.{is_lt}
-use Rattle.law_order.specs.pg_run.pg_base.declared.id.FileId.{FileId}
-use Rattle.law_order.specs.pg_run.pg_base.Id.{file_cmp, is_same_file}
-use Rattle.law_order.specs.pg_run.pg_house.Facts.{AreOrdered}
-use Rattle.law_order.specs.pg_run.pg_house.Placing.{drawn, live_place, own_with, placed}
-use Rattle.law_order.specs.pg_run.pg_house.Work.{State, is_root}
-use Rattle.law_order.specs.pg_run.pg_names.declared.attributes.Attributes.{Attributes}
-use Rattle.law_order.specs.pg_run.pg_names.Names.{NamesValue, directories, is_dir, known, with_last, with_own}
-use Rattle.law_order.specs.pg_run.pg_register.declared.place.Place.{Place}
-use Rattle.law_order.proofs.pg_run.pg_base.Orders.{is_same_file-true}
-use Rattle.law_order.proofs.pg_run.pg_house.Keys.{placed_keys}
-use Rattle.law_order.proofs.pg_run.pg_house.Ordered.{changed_ordered, pass_ordered}
-use Rattle.law_order.proofs.pg_run.pg_house.Placed.{Settled}
-use Rattle.law_order.proofs.pg_run.pg_house.Touches.{Touches, kept_by}
-use Rattle.law_order.proofs.pg_run.pg_house.Truths.{bool_cases}
-use Rattle.law_order.proofs.pg_run.pg_names.Lookups.{own_back, own_cell, own_other, update_frame}
+use Rattle.pg_run.specs.pg_base.declared.id.FileId.{FileId}
+use Rattle.pg_run.specs.pg_base.Id.{file_cmp, is_same_file}
+use Rattle.pg_run.specs.pg_house.Facts.{AreOrdered}
+use Rattle.pg_run.specs.pg_house.Placing.{drawn, live_place, own_with, placed}
+use Rattle.pg_run.specs.pg_house.Work.{State, is_root}
+use Rattle.pg_run.specs.pg_names.declared.attributes.Attributes.{Attributes}
+use Rattle.pg_run.specs.pg_names.Names.{NamesValue, directories, is_dir, known, with_last, with_own}
+use Rattle.pg_run.specs.pg_register.declared.place.Place.{Place}
+use Rattle.pg_run.proofs.pg_base.Orders.{is_same_file-true}
+use Rattle.pg_run.proofs.pg_house.Keys.{placed_keys}
+use Rattle.pg_run.proofs.pg_house.Ordered.{changed_ordered, pass_ordered}
+use Rattle.pg_run.proofs.pg_house.Placed.{Settled}
+use Rattle.pg_run.proofs.pg_house.Touches.{Touches, kept_by}
+use Rattle.pg_run.proofs.pg_house.Truths.{bool_cases}
+use Rattle.pg_run.proofs.pg_names.Lookups.{own_back, own_cell, own_other, update_frame}
 use Rattle.law_house.specs.Steps.{IsStep, NonePasses, Passes, made_live}
 use Rattle.law_house.proofs.Deciding.{idle}
 use Rattle.law_house.proofs.Walking.{Reaches, and_then, not_itself, one_passing}

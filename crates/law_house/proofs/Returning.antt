@@ -9,24 +9,24 @@ use Rattle.std.proofs.lemmas.List.{get_or-map}
 use Rattle.std.proofs.lemmas.List.Folds.{Any-from_list_any}
 use Rattle.std.proofs.lemmas.Map.Entries.{length-values_of}
 use Rattle.std.proofs.lemmas.Option.{none-some, same_Some}
-use Rattle.law_order.specs.pg_run.pg_base.declared.id.FileId.{FileId}
-use Rattle.law_order.specs.pg_run.pg_base.Id.{file_cmp, is_same_file}
-use Rattle.law_order.specs.pg_run.pg_entries.declared.entry.Entry.{Entry}
-use Rattle.law_order.specs.pg_run.pg_entries.Entry.{entry_of, is_listed, lists_any}
-use Rattle.law_order.specs.pg_run.pg_house.Facts.{AreOrdered, IsLast, is_among}
-use Rattle.law_order.specs.pg_run.pg_house.Placing.{place_at, repeated}
-use Rattle.law_order.specs.pg_run.pg_house.Returning.{first_returning, is_dead, is_returning, is_returning_held, return_first, returned}
-use Rattle.law_order.specs.pg_run.pg_house.Work.{State}
-use Rattle.law_order.specs.pg_run.pg_names.declared.attributes.Attributes.{Attributes}
-use Rattle.law_order.specs.pg_run.pg_names.Names.{InodeValue, NamesValue, directories, entry_in, is_dir, known, own_at, own_of}
-use Rattle.law_order.specs.pg_run.pg_register.Place.{root}
-use Rattle.law_order.proofs.pg_run.pg_base.Entries.{lookup-place}
-use Rattle.law_order.proofs.pg_run.pg_base.Orders.{file_total, is_same_file-true}
-use Rattle.law_order.proofs.pg_run.pg_house.AllReturned.{not_root, returning_by}
-use Rattle.law_order.proofs.pg_run.pg_house.Counting.{find_found}
-use Rattle.law_order.proofs.pg_run.pg_house.Placed.{Settled, placed_is_last, placed_settled}
-use Rattle.law_order.proofs.pg_run.pg_house.Settling.{dirs_held}
-use Rattle.law_order.proofs.pg_run.pg_house.Truths.{or_cases}
+use Rattle.pg_run.specs.pg_base.declared.id.FileId.{FileId}
+use Rattle.pg_run.specs.pg_base.Id.{file_cmp, is_same_file}
+use Rattle.pg_run.specs.pg_entries.declared.entry.Entry.{Entry}
+use Rattle.pg_run.specs.pg_entries.Entry.{entry_of, is_listed, lists_any}
+use Rattle.pg_run.specs.pg_house.Facts.{AreOrdered, IsLast, is_among}
+use Rattle.pg_run.specs.pg_house.Placing.{place_at, repeated}
+use Rattle.pg_run.specs.pg_house.Returning.{first_returning, is_dead, is_returning, is_returning_held, return_first, returned}
+use Rattle.pg_run.specs.pg_house.Work.{State}
+use Rattle.pg_run.specs.pg_names.declared.attributes.Attributes.{Attributes}
+use Rattle.pg_run.specs.pg_names.Names.{InodeValue, NamesValue, directories, entry_in, is_dir, known, own_at, own_of}
+use Rattle.pg_run.specs.pg_register.Place.{root}
+use Rattle.pg_run.proofs.pg_base.Entries.{lookup-place}
+use Rattle.pg_run.proofs.pg_base.Orders.{file_total, is_same_file-true}
+use Rattle.pg_run.proofs.pg_house.AllReturned.{not_root, returning_by}
+use Rattle.pg_run.proofs.pg_house.Counting.{find_found}
+use Rattle.pg_run.proofs.pg_house.Placed.{Settled, placed_is_last, placed_settled}
+use Rattle.pg_run.proofs.pg_house.Settling.{dirs_held}
+use Rattle.pg_run.proofs.pg_house.Truths.{or_cases}
 use Rattle.law_house.specs.Steps.{Returns}
 use Rattle.law_house.proofs.Drawn.{dead_by, dead_other, dead_place, drawn_is}
 use Rattle.law_house.proofs.Placing.{none_passes, placed_ordered, placed_reaches, placed_same}

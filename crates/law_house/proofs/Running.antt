@@ -2,30 +2,30 @@
 use Rattle.std.proofs.Common.{ℕ, ◌≡◌, ◌++◌, Bool, true, false, cond, List, [], ◌∷◌, Some, drop, length, eq-eqb, refl, ap, subst, ◌∙◌}
 use Rattle.std.specs.List.Sorted.{IsStrictlySortedBy}
 use Rattle.std.specs.Map.{keys_of}
-use Rattle.law_order.specs.pg_run.pg_base.declared.id.FileId.{FileId}
-use Rattle.law_order.specs.pg_run.pg_base.Id.{file_cmp}
-use Rattle.law_order.specs.pg_run.pg_cells.Settling.{settle}
-use Rattle.law_order.specs.pg_run.pg_event.declared.event.Event.{Event}
-use Rattle.law_order.specs.pg_run.pg_house.House.{house}
-use Rattle.law_order.specs.pg_run.pg_house.Work.{state_of}
-use Rattle.law_order.specs.pg_run.pg_intentions.Beginning.{begin_end}
-use Rattle.law_order.specs.pg_run.pg_msg.declared.work.Work.{Work}
-use Rattle.law_order.specs.pg_run.pg_names.Names.{NamesValue, with_flag}
-use Rattle.law_order.specs.pg_run.pg_pieces.Done.{Done}
-use Rattle.law_order.specs.pg_run.pg_pieces.Making.{own_next}
-use Rattle.law_order.specs.pg_run.pg_register.declared.flag.Flag.{Flag}
-use Rattle.law_order.specs.pg_run.pg_server.declared.input.Input.{Input}
-use Rattle.law_order.specs.pg_run.pg_server.Local.{closed, effect, finished, first_effect, reply_to, takes_effect}
-use Rattle.law_order.specs.pg_run.pg_store.declared.store.Store.{Store}
-use Rattle.law_order.specs.pg_run.pg_store.Store.{is_newer_flag, put_flag, take_flag, with_names}
-use Rattle.law_order.specs.pg_run.Run.{Step, Taking, World, run, start, taking_in}
-use Rattle.law_order.proofs.pg_run.pg_cells.Ruled.{touched_names}
-use Rattle.law_order.proofs.pg_run.pg_cells.Settled.{settle_keeps}
-use Rattle.law_order.proofs.pg_run.pg_house.Keys.{rules_keys}
-use Rattle.law_order.proofs.pg_run.pg_intentions.Steady.{begin_end_stays}
-use Rattle.law_order.proofs.pg_run.pg_names.Lookups.{update_frame}
-use Rattle.law_order.proofs.pg_run.theory_flood_pieces.Choices.{chosen}
-use Rattle.law_order.proofs.pg_run.Frame.{acts_is, next_is, run_more}
+use Rattle.pg_run.specs.pg_base.declared.id.FileId.{FileId}
+use Rattle.pg_run.specs.pg_base.Id.{file_cmp}
+use Rattle.pg_run.specs.pg_cells.Settling.{settle}
+use Rattle.pg_run.specs.pg_event.declared.event.Event.{Event}
+use Rattle.pg_run.specs.pg_house.House.{house}
+use Rattle.pg_run.specs.pg_house.Work.{state_of}
+use Rattle.pg_run.specs.pg_intentions.Beginning.{begin_end}
+use Rattle.pg_run.specs.pg_msg.declared.work.Work.{Work}
+use Rattle.pg_run.specs.pg_names.Names.{NamesValue, with_flag}
+use Rattle.pg_run.specs.pg_pieces.Done.{Done}
+use Rattle.pg_run.specs.pg_pieces.Making.{own_next}
+use Rattle.pg_run.specs.pg_register.declared.flag.Flag.{Flag}
+use Rattle.pg_run.specs.pg_server.declared.input.Input.{Input}
+use Rattle.pg_run.specs.pg_server.Local.{closed, effect, finished, first_effect, reply_to, takes_effect}
+use Rattle.pg_run.specs.pg_store.declared.store.Store.{Store}
+use Rattle.pg_run.specs.pg_store.Store.{is_newer_flag, put_flag, take_flag, with_names}
+use Rattle.pg_run.specs.Run.{Step, Taking, World, run, start, taking_in}
+use Rattle.pg_run.proofs.pg_cells.Ruled.{touched_names}
+use Rattle.pg_run.proofs.pg_cells.Settled.{settle_keeps}
+use Rattle.pg_run.proofs.pg_house.Keys.{rules_keys}
+use Rattle.pg_run.proofs.pg_intentions.Steady.{begin_end_stays}
+use Rattle.pg_run.proofs.pg_names.Lookups.{update_frame}
+use Rattle.pg_run.proofs.theory_flood_pieces.Choices.{chosen}
+use Rattle.pg_run.proofs.Frame.{acts_is, next_is, run_more}
 use Rattle.law_order.specs.Laws.{FirstEffectsAreOrdered, FirstEffectsAreWhole, NamesAreById}
 use Rattle.law_house.specs.Runs.{RulesGoBySteps}
 use Rattle.law_house.specs.Steps.{AreFit}

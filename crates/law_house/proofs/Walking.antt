@@ -5,17 +5,17 @@ use Rattle.std.specs.List.Sorted.{IsStrictlySortedBy}
 use Rattle.std.specs.Ordering.{is_lt}
 use Rattle.std.specs.declared.cmp.Ordering.TheVariants.{Less}
 use Rattle.std.proofs.lemmas.Bool.{false≢true, or_left, or_right}
-use Rattle.law_order.specs.pg_run.pg_base.declared.id.FileId.{FileId}
-use Rattle.law_order.specs.pg_run.pg_base.Id.{file_cmp, is_same_file}
-use Rattle.law_order.specs.pg_run.pg_house.Facts.{HasPassed, is_among}
-use Rattle.law_order.specs.pg_run.pg_house.Passing.{pass, pass_all}
-use Rattle.law_order.specs.pg_run.pg_house.Work.{State, is_root}
-use Rattle.law_order.specs.pg_run.pg_names.Names.{directories, is_dir}
-use Rattle.law_order.proofs.pg_run.pg_base.Orders.{is_same_file-refl, is_same_file-true}
-use Rattle.law_order.proofs.pg_run.pg_house.AfterPassing.{AreDirs}
-use Rattle.law_order.proofs.pg_run.pg_house.Passes.{one_pass}
-use Rattle.law_order.proofs.pg_run.pg_house.Touches.{passed_of}
-use Rattle.law_order.proofs.pg_run.pg_house.Truths.{or_cases}
+use Rattle.pg_run.specs.pg_base.declared.id.FileId.{FileId}
+use Rattle.pg_run.specs.pg_base.Id.{file_cmp, is_same_file}
+use Rattle.pg_run.specs.pg_house.Facts.{HasPassed, is_among}
+use Rattle.pg_run.specs.pg_house.Passing.{pass, pass_all}
+use Rattle.pg_run.specs.pg_house.Work.{State, is_root}
+use Rattle.pg_run.specs.pg_names.Names.{directories, is_dir}
+use Rattle.pg_run.proofs.pg_base.Orders.{is_same_file-refl, is_same_file-true}
+use Rattle.pg_run.proofs.pg_house.AfterPassing.{AreDirs}
+use Rattle.pg_run.proofs.pg_house.Passes.{one_pass}
+use Rattle.pg_run.proofs.pg_house.Touches.{passed_of}
+use Rattle.pg_run.proofs.pg_house.Truths.{or_cases}
 use Rattle.law_house.specs.Steps.{Passes, StepsTo}
 use Rattle.law_house.proofs.Deciding.{decided, idle}
 use Rattle.law_house.proofs.Moving.{less_one_way}

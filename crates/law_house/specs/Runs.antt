@@ -1,11 +1,11 @@
 -- The house rules in every event of every run.
 use Rattle.std.specs.Prelude.{ℕ, ◌≡◌, true, List}
-use Rattle.law_order.specs.pg_run.pg_event.declared.event.Event.{Event}
-use Rattle.law_order.specs.pg_run.pg_house.Work.{state_of}
-use Rattle.law_order.specs.pg_run.pg_server.declared.input.Input.{Input}
-use Rattle.law_order.specs.pg_run.pg_server.Local.{first_effect, takes_effect}
-use Rattle.law_order.specs.pg_run.Laws.{TakesIn}
-use Rattle.law_order.specs.pg_run.Run.{run}
+use Rattle.pg_run.specs.pg_event.declared.event.Event.{Event}
+use Rattle.pg_run.specs.pg_house.Work.{state_of}
+use Rattle.pg_run.specs.pg_server.declared.input.Input.{Input}
+use Rattle.pg_run.specs.pg_server.Local.{first_effect, takes_effect}
+use Rattle.pg_run.specs.Laws.{TakesIn}
+use Rattle.pg_run.specs.Run.{run}
 use Rattle.law_house.specs.Steps.{GoesBySteps}
 
 -- behind the first effect of whatever takes effect at a server the house rules go by single steps

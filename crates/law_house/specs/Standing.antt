@@ -1,13 +1,13 @@
 -- Live directories that stand in each other, and which of them cycle breaking moves.
 use Rattle.std.specs.Prelude.{ℕ, ◌≡◌, false, true, Option, None, Some, suc, zero}
 use Rattle.std.specs.Ordering.{is_lt}
-use Rattle.law_order.specs.pg_run.pg_base.declared.id.FileId.{FileId}
-use Rattle.law_order.specs.pg_run.pg_base.Id.{file_cmp}
-use Rattle.law_order.specs.pg_run.pg_base.Stamp.{is_before}
-use Rattle.law_order.specs.pg_run.pg_house.Placing.{place_at}
-use Rattle.law_order.specs.pg_run.pg_house.Work.{is_root}
-use Rattle.law_order.specs.pg_run.pg_names.declared.attributes.Attributes.{Attributes}
-use Rattle.law_order.specs.pg_run.pg_names.Names.{NamesValue, is_dir, own_at}
+use Rattle.pg_run.specs.pg_base.declared.id.FileId.{FileId}
+use Rattle.pg_run.specs.pg_base.Id.{file_cmp}
+use Rattle.pg_run.specs.pg_base.Stamp.{is_before}
+use Rattle.pg_run.specs.pg_house.Placing.{place_at}
+use Rattle.pg_run.specs.pg_house.Work.{is_root}
+use Rattle.pg_run.specs.pg_names.declared.attributes.Attributes.{Attributes}
+use Rattle.pg_run.specs.pg_names.Names.{NamesValue, is_dir, own_at}
 
 -- a live held directory other than the root, which stands in this one
 pub record StandsIn (names : NamesValue) (dir parent : FileId) : Type 0 where

@@ -3,19 +3,19 @@ use Rattle.std.specs.Prelude.{ℕ, ◌≡◌, ◌≢◌, ◌≤◌, ◌<◌, ◌
 use Rattle.std.specs.List.Sorted.{IsStrictlySortedBy}
 use Rattle.std.specs.Map.{keys_of}
 use Rattle.std.specs.Ordering.{is_lt}
-use Rattle.law_order.specs.pg_run.pg_base.declared.id.FileId.{FileId}
-use Rattle.law_order.specs.pg_run.pg_base.declared.stamp.Stamp.{Stamp}
-use Rattle.law_order.specs.pg_run.pg_base.Id.{file_cmp}
-use Rattle.law_order.specs.pg_run.pg_entries.declared.entry.Entry.{Entry}
-use Rattle.law_order.specs.pg_run.pg_entries.Entry.{is_listed}
-use Rattle.law_order.specs.pg_run.pg_house.Facts.{AreByServer, AreOrdered, IsLast, IsOfDirs}
-use Rattle.law_order.specs.pg_run.pg_house.House.{house}
-use Rattle.law_order.specs.pg_run.pg_house.Passing.{pass}
-use Rattle.law_order.specs.pg_run.pg_house.Placing.{drawn, live_place, made_at, place_at}
-use Rattle.law_order.specs.pg_run.pg_house.Work.{State, is_root}
-use Rattle.law_order.specs.pg_run.pg_names.declared.attributes.Attributes.{Attributes}
-use Rattle.law_order.specs.pg_run.pg_names.Names.{NamesValue, cell_at, directories, is_dir, own_at}
-use Rattle.law_order.specs.pg_run.pg_register.Place.{first_stamp, root, tilde_name}
+use Rattle.pg_run.specs.pg_base.declared.id.FileId.{FileId}
+use Rattle.pg_run.specs.pg_base.declared.stamp.Stamp.{Stamp}
+use Rattle.pg_run.specs.pg_base.Id.{file_cmp}
+use Rattle.pg_run.specs.pg_entries.declared.entry.Entry.{Entry}
+use Rattle.pg_run.specs.pg_entries.Entry.{is_listed}
+use Rattle.pg_run.specs.pg_house.Facts.{AreByServer, AreOrdered, IsLast, IsOfDirs}
+use Rattle.pg_run.specs.pg_house.House.{house}
+use Rattle.pg_run.specs.pg_house.Passing.{pass}
+use Rattle.pg_run.specs.pg_house.Placing.{drawn, live_place, made_at, place_at}
+use Rattle.pg_run.specs.pg_house.Work.{State, is_root}
+use Rattle.pg_run.specs.pg_names.declared.attributes.Attributes.{Attributes}
+use Rattle.pg_run.specs.pg_names.Names.{NamesValue, cell_at, directories, is_dir, own_at}
+use Rattle.pg_run.specs.pg_register.Place.{first_stamp, root, tilde_name}
 use Rattle.law_house.specs.Standing.{IsInCycle, IsLeastLatest}
 
 -- ---- where a rule applies

@@ -2,8 +2,8 @@
 //! does nothing.
 
 ghost use Rattle.std.specs.Prelude.{ℕ, None, length};
-ghost use Rattle.law_order.specs.pg_run.pg_house.Cycles.{first_moving};
-ghost use Rattle.law_order.specs.pg_run.pg_names.Names.{NamesValue, directories};
+ghost use Rattle.pg_run.specs.pg_house.Cycles.{first_moving};
+ghost use Rattle.pg_run.specs.pg_names.Names.{NamesValue, directories};
 ghost use Rattle.law_house.specs.Runs.{RulesGoBySteps};
 ghost use Rattle.law_house.specs.Standing.{IsWhoMoves};
 ghost use Rattle.law_house.specs.Steps.{HouseGoesBySteps};

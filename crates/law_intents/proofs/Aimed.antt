@@ -1,15 +1,15 @@
 -- Who is asked next is another server of the run that is not removed, or nobody.
 use Rattle.std.proofs.Common.{ℕ, ◌≡◌, ◌≤◌, ◌==◌, true, false, not, nat_le, List, sym, subst, ◌∙◌}
 use Rattle.std.proofs.lemmas.Bool.{and_parts, leb-true, not-true}
-use Rattle.law_order.specs.pg_intent.Target.{IsLiveOther}
-use Rattle.law_order.specs.pg_intent.Target.{next_target as next_of}
-use Rattle.law_order.proofs.pg_intent.Above.{next_lives, not_equal}
-use Rattle.law_order.specs.pg_register.Flag.{is_removed}
-use Rattle.law_order.specs.pg_store.declared.store.Store.{Store}
-use Rattle.law_order.specs.pg_store.Seen.{removed_of, server_of}
-use Rattle.law_order.specs.pg_store.Servers.{first_target, next_target}
-use Rattle.law_order.specs.pg_store.Servers.{is_live_other as is_live_other_at}
-use Rattle.law_order.proofs.theory_flood_pieces.Choices.{chosen}
+use Rattle.law_frame.specs.pg_run.pg_intent.Target.{IsLiveOther}
+use Rattle.law_frame.specs.pg_run.pg_intent.Target.{next_target as next_of}
+use Rattle.law_frame.proofs.pg_run.pg_intent.Above.{next_lives, not_equal}
+use Rattle.law_frame.specs.pg_run.pg_register.Flag.{is_removed}
+use Rattle.law_frame.specs.pg_run.pg_store.declared.store.Store.{Store}
+use Rattle.law_frame.specs.pg_run.pg_store.Seen.{removed_of, server_of}
+use Rattle.law_frame.specs.pg_run.pg_store.Servers.{first_target, next_target}
+use Rattle.law_frame.specs.pg_run.pg_store.Servers.{is_live_other as is_live_other_at}
+use Rattle.law_frame.proofs.pg_run.theory_flood_pieces.Choices.{chosen}
 use Rattle.law_intents.proofs.Far.{Aims, IsLive}
 
 module _ (n s : ℕ) (removed : List ℕ) where

@@ -4,37 +4,37 @@ use Rattle.std.specs.Option.{option_map, unwrap_or}
 use Rattle.std.proofs.lemmas.Bool.{and_parts, not-true}
 use Rattle.std.proofs.lemmas.List.Elements.{All-filter, All-head, All-nil, All-tail}
 use Rattle.std.proofs.lemmas.Option.{none-some, same_Some}
-use Rattle.law_order.specs.pg_base.declared.id.FileId.{FileId}
-use Rattle.law_order.specs.pg_edges.declared.edge.Edge.{Edge}
-use Rattle.law_order.specs.pg_entries.declared.entry.Entry.{Entry}
-use Rattle.law_order.specs.pg_intent.declared.intent.Intent.{Intent}
-use Rattle.law_order.specs.pg_intent.declared.intent.Intent.TheVariants as intent
-use Rattle.law_order.specs.pg_intent.declared.key.IntentKey.TheVariants as intent_key
-use Rattle.law_order.specs.pg_intent.Intent.{aimed_at, key_of, rejoined, target_of}
-use Rattle.law_order.specs.pg_intent.Intents.{stands}
-use Rattle.law_order.proofs.pg_intent.Above.{not_equal}
-use Rattle.law_order.specs.pg_msg.declared.work.Work.{Work}
-use Rattle.law_order.specs.pg_msg.Work.{with_begun}
-use Rattle.law_order.specs.pg_names.declared.attributes.Attributes.{Attributes}
-use Rattle.law_order.specs.pg_names.Names.{NamesValue, cell_at, or_blank, own_at}
-use Rattle.law_order.specs.pg_register.declared.flag.Flag.{Flag}
-use Rattle.law_order.specs.pg_register.Flag.{first_other_gold, is_live, is_removed}
-use Rattle.law_order.specs.pg_register.Flag.{is_live_other as is_live_other_flag}
-use Rattle.law_order.specs.pg_store.declared.store.Store.{Store}
-use Rattle.law_order.specs.pg_store.Births.{with_birth, with_wishes}
-use Rattle.law_order.specs.pg_store.Seen.{removed_of, server_of}
-use Rattle.law_order.specs.pg_store.Servers.{next_target}
-use Rattle.law_order.specs.pg_store.Wishes.{without_wish}
-use Rattle.law_order.specs.pg_pieces.Done.{Done, idle}
-use Rattle.law_order.specs.pg_pieces.Golds.{flags_of}
-use Rattle.law_order.specs.pg_intentions.Beginning.{begin_end, still_stands}
-use Rattle.law_order.specs.pg_intentions.Confirms.{confirm_of, holder_by}
-use Rattle.law_order.specs.pg_intentions.Fills.{fill_of, files_to_fill, with_fill_birth}
-use Rattle.law_order.specs.pg_intentions.Intending.{begin_intent, with_begun_if}
-use Rattle.law_order.specs.pg_intentions.Patches.{patch_of}
-use Rattle.law_order.specs.pg_graph.Walks.{edges_of}
-use Rattle.law_order.specs.pg_intentions.Seeks.{is_apart, seek_target, target_or_next}
-use Rattle.law_order.proofs.theory_flood_pieces.Choices.{chosen}
+use Rattle.law_frame.specs.pg_run.pg_base.declared.id.FileId.{FileId}
+use Rattle.law_frame.specs.pg_run.pg_edges.declared.edge.Edge.{Edge}
+use Rattle.law_frame.specs.pg_run.pg_entries.declared.entry.Entry.{Entry}
+use Rattle.law_frame.specs.pg_run.pg_intent.declared.intent.Intent.{Intent}
+use Rattle.law_frame.specs.pg_run.pg_intent.declared.intent.Intent.TheVariants as intent
+use Rattle.law_frame.specs.pg_run.pg_intent.declared.key.IntentKey.TheVariants as intent_key
+use Rattle.law_frame.specs.pg_run.pg_intent.Intent.{aimed_at, key_of, rejoined, target_of}
+use Rattle.law_frame.specs.pg_run.pg_intent.Intents.{stands}
+use Rattle.law_frame.proofs.pg_run.pg_intent.Above.{not_equal}
+use Rattle.law_frame.specs.pg_run.pg_msg.declared.work.Work.{Work}
+use Rattle.law_frame.specs.pg_run.pg_msg.Work.{with_begun}
+use Rattle.law_frame.specs.pg_run.pg_names.declared.attributes.Attributes.{Attributes}
+use Rattle.law_frame.specs.pg_run.pg_names.Names.{NamesValue, cell_at, or_blank, own_at}
+use Rattle.law_frame.specs.pg_run.pg_register.declared.flag.Flag.{Flag}
+use Rattle.law_frame.specs.pg_run.pg_register.Flag.{first_other_gold, is_live, is_removed}
+use Rattle.law_frame.specs.pg_run.pg_register.Flag.{is_live_other as is_live_other_flag}
+use Rattle.law_frame.specs.pg_run.pg_store.declared.store.Store.{Store}
+use Rattle.law_frame.specs.pg_run.pg_store.Births.{with_birth, with_wishes}
+use Rattle.law_frame.specs.pg_run.pg_store.Seen.{removed_of, server_of}
+use Rattle.law_frame.specs.pg_run.pg_store.Servers.{next_target}
+use Rattle.law_frame.specs.pg_run.pg_store.Wishes.{without_wish}
+use Rattle.law_frame.specs.pg_run.pg_pieces.Done.{Done, idle}
+use Rattle.law_frame.specs.pg_run.pg_pieces.Golds.{flags_of}
+use Rattle.law_frame.specs.pg_run.pg_intentions.Beginning.{begin_end, still_stands}
+use Rattle.law_frame.specs.pg_run.pg_intentions.Confirms.{confirm_of, holder_by}
+use Rattle.law_frame.specs.pg_run.pg_intentions.Fills.{fill_of, files_to_fill, with_fill_birth}
+use Rattle.law_frame.specs.pg_run.pg_intentions.Intending.{begin_intent, with_begun_if}
+use Rattle.law_frame.specs.pg_run.pg_intentions.Patches.{patch_of}
+use Rattle.law_frame.specs.pg_run.pg_graph.Walks.{edges_of}
+use Rattle.law_frame.specs.pg_run.pg_intentions.Seeks.{is_apart, seek_target, target_or_next}
+use Rattle.law_frame.proofs.pg_run.theory_flood_pieces.Choices.{chosen}
 use Rattle.law_frame.proofs.Ended.{fill_born, intents_keep}
 use Rattle.law_order.specs.Named.{IsOfServer}
 use Rattle.law_order.proofs.Intended.{all_begun, all_changed}

@@ -4,27 +4,27 @@ use Rattle.std.specs.List.{list_any}
 use Rattle.std.proofs.lemmas.Bool.{and_parts, false≢true}
 use Rattle.std.proofs.lemmas.Option.{none-some}
 use Rattle.std.proofs.lemmas.List.Elements.{All-filter}
-use Rattle.law_order.specs.pg_base.declared.id.FileId.{FileId}
-use Rattle.law_order.specs.pg_base.declared.policy.Policy.{Policy}
-use Rattle.law_order.specs.pg_base.Id.{file_cmp, is_same_file}
-use Rattle.law_order.proofs.pg_base.Maps.{lookup-insert_entry}
-use Rattle.law_order.proofs.pg_base.Orders.{file_total, is_same_file-refl, is_same_file-true}
-use Rattle.law_order.specs.pg_entries.declared.entry.Entry.{Entry}
-use Rattle.law_order.specs.pg_intent.declared.intent.Intent.{Intent}
-use Rattle.law_order.specs.pg_intent.declared.intent.Intent.TheVariants as intent
-use Rattle.law_order.specs.pg_intent.declared.key.IntentKey.{IntentKey}
-use Rattle.law_order.specs.pg_intent.declared.key.IntentKey.TheVariants as intent_key
-use Rattle.law_order.specs.pg_intent.Intent.{target_of}
-use Rattle.law_order.specs.pg_intent.Intents.{ended, has_key, intent_at}
-use Rattle.law_order.specs.pg_intent.Key.{is_same_key}
-use Rattle.law_order.specs.pg_names.declared.attributes.Attributes.{Attributes}
-use Rattle.law_order.specs.pg_names.Names.{InodeValue, NamesValue, is_held, known, new_held, own_at, own_of, with_joined}
-use Rattle.law_order.proofs.pg_names.Lookups.{joined_own, update_frame}
-use Rattle.law_order.specs.pg_store.declared.store.Store.{Store}
-use Rattle.law_order.specs.pg_store.Beginning.{begin, patch_key, patches_of, put_new, take_patch, take_patches, take_told_in, with_intents}
-use Rattle.law_order.specs.pg_store.Store.{is_newer_entry, put_entry, take_entry}
-use Rattle.law_order.specs.pg_pieces.Done.{Done, idle}
-use Rattle.law_order.proofs.theory_flood_pieces.Choices.{chosen}
+use Rattle.law_frame.specs.pg_run.pg_base.declared.id.FileId.{FileId}
+use Rattle.law_frame.specs.pg_run.pg_base.declared.policy.Policy.{Policy}
+use Rattle.law_frame.specs.pg_run.pg_base.Id.{file_cmp, is_same_file}
+use Rattle.law_frame.proofs.pg_run.pg_base.Maps.{lookup-insert_entry}
+use Rattle.law_frame.proofs.pg_run.pg_base.Orders.{file_total, is_same_file-refl, is_same_file-true}
+use Rattle.law_frame.specs.pg_run.pg_entries.declared.entry.Entry.{Entry}
+use Rattle.law_frame.specs.pg_run.pg_intent.declared.intent.Intent.{Intent}
+use Rattle.law_frame.specs.pg_run.pg_intent.declared.intent.Intent.TheVariants as intent
+use Rattle.law_frame.specs.pg_run.pg_intent.declared.key.IntentKey.{IntentKey}
+use Rattle.law_frame.specs.pg_run.pg_intent.declared.key.IntentKey.TheVariants as intent_key
+use Rattle.law_frame.specs.pg_run.pg_intent.Intent.{target_of}
+use Rattle.law_frame.specs.pg_run.pg_intent.Intents.{ended, has_key, intent_at}
+use Rattle.law_frame.specs.pg_run.pg_intent.Key.{is_same_key}
+use Rattle.law_frame.specs.pg_run.pg_names.declared.attributes.Attributes.{Attributes}
+use Rattle.law_frame.specs.pg_run.pg_names.Names.{InodeValue, NamesValue, is_held, known, new_held, own_at, own_of, with_joined}
+use Rattle.law_frame.proofs.pg_run.pg_names.Lookups.{joined_own, update_frame}
+use Rattle.law_frame.specs.pg_run.pg_store.declared.store.Store.{Store}
+use Rattle.law_frame.specs.pg_run.pg_store.Beginning.{begin, patch_key, patches_of, put_new, take_patch, take_patches, take_told_in, with_intents}
+use Rattle.law_frame.specs.pg_run.pg_store.Store.{is_newer_entry, put_entry, take_entry}
+use Rattle.law_frame.specs.pg_run.pg_pieces.Done.{Done, idle}
+use Rattle.law_frame.proofs.pg_run.theory_flood_pieces.Choices.{chosen}
 use Rattle.law_intents.proofs.Far.{Aims, AreAimed, Far, told_ended}
 use Rattle.law_intents.proofs.Goes.{told_at, told_of, update_held}
 

@@ -1,38 +1,38 @@
 -- What a call leaves, in the midst of an event.
 use Rattle.std.proofs.Common.{ℕ, ◌≡◌, true, false, not, List, [], ◌∷◌, ◌++◌, Some, refl, subst}
 use Rattle.std.proofs.lemmas.Bool.{and_parts, not-true}
-use Rattle.law_order.specs.pg_base.declared.id.FileId.{FileId}
-use Rattle.law_order.specs.pg_base.declared.id.Kind.{Kind}
-use Rattle.law_order.specs.pg_base.declared.policy.Policy.TheVariants.{Last}
-use Rattle.law_order.specs.pg_call.declared.call.Call.{Call}
-use Rattle.law_order.specs.pg_intent.declared.key.IntentKey.TheVariants as intent_key
-use Rattle.law_order.specs.pg_intent.Intents.{HaveOwnKeys}
-use Rattle.law_order.specs.pg_msg.declared.message.Message.TheVariants as message
-use Rattle.law_order.specs.pg_msg.declared.update.Update.TheVariants as update
-use Rattle.law_order.specs.pg_msg.declared.work.Work.{Work}
-use Rattle.law_order.specs.pg_msg.Work.{with_made}
-use Rattle.law_order.specs.pg_names.Names.{blank_own}
-use Rattle.law_order.specs.pg_patch.Ranges.{RangesValue}
-use Rattle.law_order.specs.pg_register.declared.flag.Flag.{Flag}
-use Rattle.law_order.specs.pg_register.Flag.{is_live, is_removed}
-use Rattle.law_order.specs.pg_store.declared.store.Store.{Store}
-use Rattle.law_order.specs.pg_store.Births.{draw_birth, with_birth, with_wish}
-use Rattle.law_order.specs.pg_store.Links.{is_clean}
-use Rattle.law_order.specs.pg_store.Seen.{removed_of}
-use Rattle.law_order.specs.pg_store.Store.{is_held}
-use Rattle.law_order.specs.pg_pieces.Done.{Done, idle}
-use Rattle.law_order.specs.pg_pieces.Golds.{flags_of}
-use Rattle.law_order.specs.pg_checks.Asking.{fresh_wish, holder}
-use Rattle.law_order.specs.pg_calls.Calls.{do_call}
-use Rattle.law_order.specs.pg_calls.Demoting.{is_clean_gold}
-use Rattle.law_order.specs.pg_calls.Dropping.{clean_gold, leave_of}
-use Rattle.law_order.specs.pg_calls.Forgetting.{bare_entry, dead_at, unfilled, unwished}
-use Rattle.law_order.specs.pg_calls.GivingUp.{enter_view}
-use Rattle.law_order.specs.pg_calls.Making.{drawn, make_version, version_of, with_version}
-use Rattle.law_order.specs.pg_calls.Naming.{next_id, with_id}
-use Rattle.law_order.specs.pg_server.Local.{done_of}
-use Rattle.law_order.proofs.pg_graph.LeaveOk.{found_passes}
-use Rattle.law_order.specs.theory_flood_pieces.Whole.{IsWhole}
+use Rattle.law_frame.specs.pg_run.pg_base.declared.id.FileId.{FileId}
+use Rattle.law_frame.specs.pg_run.pg_base.declared.id.Kind.{Kind}
+use Rattle.law_frame.specs.pg_run.pg_base.declared.policy.Policy.TheVariants.{Last}
+use Rattle.law_frame.specs.pg_run.pg_call.declared.call.Call.{Call}
+use Rattle.law_frame.specs.pg_run.pg_intent.declared.key.IntentKey.TheVariants as intent_key
+use Rattle.law_frame.specs.pg_run.pg_intent.Intents.{HaveOwnKeys}
+use Rattle.law_frame.specs.pg_run.pg_msg.declared.message.Message.TheVariants as message
+use Rattle.law_frame.specs.pg_run.pg_msg.declared.update.Update.TheVariants as update
+use Rattle.law_frame.specs.pg_run.pg_msg.declared.work.Work.{Work}
+use Rattle.law_frame.specs.pg_run.pg_msg.Work.{with_made}
+use Rattle.law_frame.specs.pg_run.pg_names.Names.{blank_own}
+use Rattle.law_frame.specs.pg_run.pg_patch.Ranges.{RangesValue}
+use Rattle.law_frame.specs.pg_run.pg_register.declared.flag.Flag.{Flag}
+use Rattle.law_frame.specs.pg_run.pg_register.Flag.{is_live, is_removed}
+use Rattle.law_frame.specs.pg_run.pg_store.declared.store.Store.{Store}
+use Rattle.law_frame.specs.pg_run.pg_store.Births.{draw_birth, with_birth, with_wish}
+use Rattle.law_frame.specs.pg_run.pg_store.Links.{is_clean}
+use Rattle.law_frame.specs.pg_run.pg_store.Seen.{removed_of}
+use Rattle.law_frame.specs.pg_run.pg_store.Store.{is_held}
+use Rattle.law_frame.specs.pg_run.pg_pieces.Done.{Done, idle}
+use Rattle.law_frame.specs.pg_run.pg_pieces.Golds.{flags_of}
+use Rattle.law_frame.specs.pg_run.pg_checks.Asking.{fresh_wish, holder}
+use Rattle.law_frame.specs.pg_run.pg_calls.Calls.{do_call}
+use Rattle.law_frame.specs.pg_run.pg_calls.Demoting.{is_clean_gold}
+use Rattle.law_frame.specs.pg_run.pg_calls.Dropping.{clean_gold, leave_of}
+use Rattle.law_frame.specs.pg_run.pg_calls.Forgetting.{bare_entry, dead_at, unfilled, unwished}
+use Rattle.law_frame.specs.pg_run.pg_calls.GivingUp.{enter_view}
+use Rattle.law_frame.specs.pg_run.pg_calls.Making.{drawn, make_version, version_of, with_version}
+use Rattle.law_frame.specs.pg_run.pg_calls.Naming.{next_id, with_id}
+use Rattle.law_frame.specs.pg_run.pg_server.Local.{done_of}
+use Rattle.law_frame.proofs.pg_run.pg_graph.LeaveOk.{found_passes}
+use Rattle.law_frame.specs.pg_run.theory_flood_pieces.Whole.{IsWhole}
 use Rattle.law_frame.proofs.Called.{call_keeps}
 use Rattle.law_frame.proofs.KeepsCalls.{KeepsCalls}
 use Rattle.law_intents.proofs.Begun.{far_begin}

@@ -1,30 +1,30 @@
 -- An event at a server leaves its intentions in order.
 use Rattle.std.proofs.Common.{ℕ, ◌≡◌, ◌==◌, Bool, true, false, cond, List, refl, sym, ap, subst, ◌∙◌}
 use Rattle.std.proofs.lemmas.Bool.{and_parts, false≢true}
-use Rattle.law_order.specs.pg_base.declared.id.Kind.{Kind}
-use Rattle.law_order.specs.pg_intent.Intents.{HaveOwnKeys}
-use Rattle.law_order.specs.pg_msg.declared.message.Packet.{Packet}
-use Rattle.law_order.specs.pg_msg.Numbers.{is_in_range}
-use Rattle.law_order.specs.pg_msg.Work.{new_work}
-use Rattle.law_order.specs.pg_names.Names.{NamesValue}
-use Rattle.law_order.specs.pg_store.declared.store.Store.{Store}
-use Rattle.law_order.specs.pg_store.Seen.{removed_of, view_of}
-use Rattle.law_order.specs.pg_store.Servers.{is_live_other}
-use Rattle.law_order.specs.pg_store.Store.{is_held, is_before_clock_end}
-use Rattle.law_order.specs.pg_store.Together.{AreBirths}
-use Rattle.law_order.specs.pg_pieces.Done.{Done, idle}
-use Rattle.law_order.specs.pg_cells.Settling.{settle}
-use Rattle.law_order.specs.pg_cells.Ticks.{tick}
-use Rattle.law_order.specs.pg_intentions.Requests.{ask_all}
-use Rattle.law_order.proofs.pg_intentions.Leaves.{all_moved}
-use Rattle.law_order.proofs.pg_intentions.Steady.{begin_end_stays}
-use Rattle.law_order.specs.pg_calls.Naming.{next_id}
-use Rattle.law_order.proofs.pg_calls.Late.{late_does_nothing}
-use Rattle.law_order.specs.pg_server.declared.input.Input.{Input}
-use Rattle.law_order.specs.pg_server.declared.input.Input.TheVariants as input
-use Rattle.law_order.specs.pg_server.Local.{Effect, closed, effect, finished, first_effect, is_heard, receive, reply_to, takes_effect, ticked, without_sources, without_volatile}
-use Rattle.law_order.specs.theory_flood_pieces.Whole.{IsWhole}
-use Rattle.law_order.proofs.theory_flood_pieces.Choices.{chosen, decided}
+use Rattle.law_frame.specs.pg_run.pg_base.declared.id.Kind.{Kind}
+use Rattle.law_frame.specs.pg_run.pg_intent.Intents.{HaveOwnKeys}
+use Rattle.law_frame.specs.pg_run.pg_msg.declared.message.Packet.{Packet}
+use Rattle.law_frame.specs.pg_run.pg_msg.Numbers.{is_in_range}
+use Rattle.law_frame.specs.pg_run.pg_msg.Work.{new_work}
+use Rattle.law_frame.specs.pg_run.pg_names.Names.{NamesValue}
+use Rattle.law_frame.specs.pg_run.pg_store.declared.store.Store.{Store}
+use Rattle.law_frame.specs.pg_run.pg_store.Seen.{removed_of, view_of}
+use Rattle.law_frame.specs.pg_run.pg_store.Servers.{is_live_other}
+use Rattle.law_frame.specs.pg_run.pg_store.Store.{is_held, is_before_clock_end}
+use Rattle.law_frame.specs.pg_run.pg_store.Together.{AreBirths}
+use Rattle.law_frame.specs.pg_run.pg_pieces.Done.{Done, idle}
+use Rattle.law_frame.specs.pg_run.pg_cells.Settling.{settle}
+use Rattle.law_frame.specs.pg_run.pg_cells.Ticks.{tick}
+use Rattle.law_frame.specs.pg_run.pg_intentions.Requests.{ask_all}
+use Rattle.law_frame.proofs.pg_run.pg_intentions.Leaves.{all_moved}
+use Rattle.law_frame.proofs.pg_run.pg_intentions.Steady.{begin_end_stays}
+use Rattle.law_frame.specs.pg_run.pg_calls.Naming.{next_id}
+use Rattle.law_frame.proofs.pg_run.pg_calls.Late.{late_does_nothing}
+use Rattle.law_frame.specs.pg_run.pg_server.declared.input.Input.{Input}
+use Rattle.law_frame.specs.pg_run.pg_server.declared.input.Input.TheVariants as input
+use Rattle.law_frame.specs.pg_run.pg_server.Local.{Effect, closed, effect, finished, first_effect, is_heard, receive, reply_to, takes_effect, ticked, without_sources, without_volatile}
+use Rattle.law_frame.specs.pg_run.theory_flood_pieces.Whole.{IsWhole}
+use Rattle.law_frame.proofs.pg_run.theory_flood_pieces.Choices.{chosen, decided}
 use Rattle.law_intents.proofs.Aimed.{heard_live}
 use Rattle.law_intents.proofs.Called.{far_called}
 use Rattle.law_intents.proofs.Asked.{FlagsAreOfServers}

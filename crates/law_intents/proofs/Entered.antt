@@ -3,33 +3,33 @@ use Rattle.std.proofs.Common.{ℕ, ◌≡◌, ◌==◌, ◌++◌, Bool, true, fa
 use Rattle.std.specs.Map.{keys_of}
 use Rattle.std.proofs.lemmas.Bool.{false≢true, ne_eqb}
 use Rattle.std.proofs.lemmas.Option.{none-some, same_Some}
-use Rattle.law_order.specs.pg_base.declared.id.FileId.{FileId}
-use Rattle.law_order.specs.pg_edges.declared.edge.Edge.{Edge}
-use Rattle.law_order.specs.pg_entries.declared.entry.Entry.{Entry}
-use Rattle.law_order.specs.pg_intent.declared.intent.Intent.{Intent}
-use Rattle.law_order.specs.pg_intent.declared.intent.Intent.TheVariants as intent
-use Rattle.law_order.specs.pg_intent.declared.key.IntentKey.{IntentKey}
-use Rattle.law_order.specs.pg_intent.declared.key.IntentKey.TheVariants as intent_key
-use Rattle.law_order.specs.pg_intent.Intent.{aimed_at, key_of, target_of}
-use Rattle.law_order.specs.pg_intent.Intents.{HaveOwnKeys, has_key, intent_at, keys_to, turned_at, turned_each}
-use Rattle.law_order.specs.pg_intent.Key.{is_for_peer}
-use Rattle.law_order.proofs.pg_intent.Above.{still_apart}
-use Rattle.law_order.proofs.pg_intent.SameKey.{is_same_key-true}
-use Rattle.law_order.proofs.pg_intent.Stands.{all_found}
-use Rattle.law_order.proofs.pg_intent.Turned.{own-turned, turn_found}
-use Rattle.law_order.specs.pg_msg.declared.work.Work.{Work}
-use Rattle.law_order.specs.pg_names.Names.{NamesValue, remove_server}
-use Rattle.law_order.specs.pg_store.declared.store.Store.{Store}
-use Rattle.law_order.specs.pg_store.Seen.{removed_of}
-use Rattle.law_order.specs.pg_store.Servers.{next_target}
-use Rattle.law_order.specs.pg_store.Views.{cut_each, enter, with_removed}
-use Rattle.law_order.proofs.pg_store.Entered.{cuts_intents, enter_names}
-use Rattle.law_order.specs.pg_pieces.Done.{Done, idle}
-use Rattle.law_order.proofs.pg_graph.LeaveOk.{found_keyed}
-use Rattle.law_order.specs.pg_intentions.Inviting.{invite_along, invite_each, invite_of, invites, loose_edge}
-use Rattle.law_order.specs.pg_calls.GivingUp.{doubt_all, enter_view}
-use Rattle.law_order.specs.theory_flood_pieces.Whole.{IsWhole}
-use Rattle.law_order.proofs.theory_flood_pieces.Views.{whole_enter}
+use Rattle.law_frame.specs.pg_run.pg_base.declared.id.FileId.{FileId}
+use Rattle.law_frame.specs.pg_run.pg_edges.declared.edge.Edge.{Edge}
+use Rattle.law_frame.specs.pg_run.pg_entries.declared.entry.Entry.{Entry}
+use Rattle.law_frame.specs.pg_run.pg_intent.declared.intent.Intent.{Intent}
+use Rattle.law_frame.specs.pg_run.pg_intent.declared.intent.Intent.TheVariants as intent
+use Rattle.law_frame.specs.pg_run.pg_intent.declared.key.IntentKey.{IntentKey}
+use Rattle.law_frame.specs.pg_run.pg_intent.declared.key.IntentKey.TheVariants as intent_key
+use Rattle.law_frame.specs.pg_run.pg_intent.Intent.{aimed_at, key_of, target_of}
+use Rattle.law_frame.specs.pg_run.pg_intent.Intents.{HaveOwnKeys, has_key, intent_at, keys_to, turned_at, turned_each}
+use Rattle.law_frame.specs.pg_run.pg_intent.Key.{is_for_peer}
+use Rattle.law_frame.proofs.pg_run.pg_intent.Above.{still_apart}
+use Rattle.law_frame.proofs.pg_run.pg_intent.SameKey.{is_same_key-true}
+use Rattle.law_frame.proofs.pg_run.pg_intent.Stands.{all_found}
+use Rattle.law_frame.proofs.pg_run.pg_intent.Turned.{own-turned, turn_found}
+use Rattle.law_frame.specs.pg_run.pg_msg.declared.work.Work.{Work}
+use Rattle.law_frame.specs.pg_run.pg_names.Names.{NamesValue, remove_server}
+use Rattle.law_frame.specs.pg_run.pg_store.declared.store.Store.{Store}
+use Rattle.law_frame.specs.pg_run.pg_store.Seen.{removed_of}
+use Rattle.law_frame.specs.pg_run.pg_store.Servers.{next_target}
+use Rattle.law_frame.specs.pg_run.pg_store.Views.{cut_each, enter, with_removed}
+use Rattle.law_frame.proofs.pg_run.pg_store.Entered.{cuts_intents, enter_names}
+use Rattle.law_frame.specs.pg_run.pg_pieces.Done.{Done, idle}
+use Rattle.law_frame.proofs.pg_run.pg_graph.LeaveOk.{found_keyed}
+use Rattle.law_frame.specs.pg_run.pg_intentions.Inviting.{invite_along, invite_each, invite_of, invites, loose_edge}
+use Rattle.law_frame.specs.pg_run.pg_calls.GivingUp.{doubt_all, enter_view}
+use Rattle.law_frame.specs.pg_run.theory_flood_pieces.Whole.{IsWhole}
+use Rattle.law_frame.proofs.pg_run.theory_flood_pieces.Views.{whole_enter}
 use Rattle.law_order.proofs.Pieces.{found_has}
 use Rattle.law_intents.proofs.Aimed.{next_aims}
 use Rattle.law_intents.proofs.Far.{Aims, AreAimed, Far, IsBeside, aimed_told, beside_either, beside_itself, far_work}

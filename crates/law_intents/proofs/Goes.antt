@@ -2,24 +2,24 @@
 -- live ones that is noted.
 use Rattle.std.proofs.Common.{ℕ, ◌≡◌, ◌⊎◌, Bool, true, false, cond, List, Option, None, Some, is_some, inl, inr, refl, sym, ap, subst, ◌∙◌}
 use Rattle.std.proofs.lemmas.Option.{none-some, same_Some}
-use Rattle.law_order.specs.pg_base.declared.id.FileId.{FileId}
-use Rattle.law_order.specs.pg_base.Id.{is_same_file}
-use Rattle.law_order.specs.pg_base.Stamp.{is_before}
-use Rattle.law_order.proofs.pg_base.Orders.{is_same_file-true}
-use Rattle.law_order.specs.pg_register.declared.place.Place.{Place}
-use Rattle.law_order.specs.pg_entries.declared.entry.Entry.{Entry}
-use Rattle.law_order.specs.pg_intent.declared.intent.Intent.{Intent}
-use Rattle.law_order.specs.pg_intent.declared.intent.Intent.TheVariants as intent
-use Rattle.law_order.specs.pg_intent.declared.key.IntentKey.TheVariants as intent_key
-use Rattle.law_order.specs.pg_intent.Intents.{intent_at}
-use Rattle.law_order.specs.pg_msg.declared.work.Slot.{Slot}
-use Rattle.law_order.specs.pg_msg.declared.work.Work.{Work}
-use Rattle.law_order.specs.pg_names.declared.attributes.Attributes.{Attributes}
-use Rattle.law_order.specs.pg_names.Names.{InodeValue, NamesValue, is_held, join_place, known, own_at, own_of, raise, update, with_last, with_place}
-use Rattle.law_order.proofs.pg_names.Lookups.{known_absent, known_other, known_same, own_with_place, place_other, place_same, update_frame}
-use Rattle.law_order.specs.pg_house.Facts.{IsHeld, IsOneOf}
-use Rattle.law_order.specs.pg_house.Work.{is_root, note_left}
-use Rattle.law_order.proofs.pg_house.Noting.{noted_live, noted_only, noted_stays}
+use Rattle.law_frame.specs.pg_run.pg_base.declared.id.FileId.{FileId}
+use Rattle.law_frame.specs.pg_run.pg_base.Id.{is_same_file}
+use Rattle.law_frame.specs.pg_run.pg_base.Stamp.{is_before}
+use Rattle.law_frame.proofs.pg_run.pg_base.Orders.{is_same_file-true}
+use Rattle.law_frame.specs.pg_run.pg_register.declared.place.Place.{Place}
+use Rattle.law_frame.specs.pg_run.pg_entries.declared.entry.Entry.{Entry}
+use Rattle.law_frame.specs.pg_run.pg_intent.declared.intent.Intent.{Intent}
+use Rattle.law_frame.specs.pg_run.pg_intent.declared.intent.Intent.TheVariants as intent
+use Rattle.law_frame.specs.pg_run.pg_intent.declared.key.IntentKey.TheVariants as intent_key
+use Rattle.law_frame.specs.pg_run.pg_intent.Intents.{intent_at}
+use Rattle.law_frame.specs.pg_run.pg_msg.declared.work.Slot.{Slot}
+use Rattle.law_frame.specs.pg_run.pg_msg.declared.work.Work.{Work}
+use Rattle.law_frame.specs.pg_run.pg_names.declared.attributes.Attributes.{Attributes}
+use Rattle.law_frame.specs.pg_run.pg_names.Names.{InodeValue, NamesValue, is_held, join_place, known, own_at, own_of, raise, update, with_last, with_place}
+use Rattle.law_frame.proofs.pg_run.pg_names.Lookups.{known_absent, known_other, known_same, own_with_place, place_other, place_same, update_frame}
+use Rattle.law_frame.specs.pg_run.pg_house.Facts.{IsHeld, IsOneOf}
+use Rattle.law_frame.specs.pg_run.pg_house.Work.{is_root, note_left}
+use Rattle.law_frame.proofs.pg_run.pg_house.Noting.{noted_live, noted_only, noted_stays}
 use Rattle.theory_listing_house.proofs.Seen.{before_trans}
 
 -- ---- what is told of a child

@@ -2,32 +2,32 @@
 use Rattle.std.proofs.Common.{ℕ, ◌≡◌, ◌==◌, ◌/◌, ◌%◌, false, List, length, Option, None, Some, refl, sym, subst}
 use Rattle.std.specs.List.{slice_get}
 use Rattle.std.proofs.lemmas.List.Elements.{All-contains}
-use Rattle.law_order.specs.pg_base.declared.id.FileId.{FileId}
-use Rattle.law_order.specs.pg_edges.declared.edge.Edge.{Edge}
-use Rattle.law_order.specs.pg_entries.declared.cell.Cell.TheVariants as cells
-use Rattle.law_order.specs.pg_intent.declared.key.IntentKey.TheVariants as intent_key
-use Rattle.law_order.specs.pg_msg.declared.message.Message.{Message}
-use Rattle.law_order.specs.pg_msg.declared.message.Message.TheVariants as message
-use Rattle.law_order.specs.pg_msg.declared.summary.Greeting.TheVariants as greeting
-use Rattle.law_order.specs.pg_msg.declared.work.Work.{Work}
-use Rattle.law_order.specs.pg_msg.Work.{with_tail}
-use Rattle.law_order.specs.pg_names.Names.{fill as fill_names, filled}
-use Rattle.law_order.specs.pg_store.declared.store.Store.{Store}
-use Rattle.law_order.specs.pg_store.Births.{birth_of, with_wishes}
-use Rattle.law_order.specs.pg_store.Links.{is_linked, unlink}
-use Rattle.law_order.specs.pg_store.Seen.{server_of}
-use Rattle.law_order.specs.pg_store.Servers.{next_target}
-use Rattle.law_order.specs.pg_store.Store.{acknowledge, keep_delta, replica_at, replica_of, with_names}
-use Rattle.law_order.specs.pg_store.Wishes.{aim_wish}
-use Rattle.law_order.proofs.pg_store.Given.{pending_may}
-use Rattle.law_order.specs.pg_pieces.Accepting.{ends_to}
-use Rattle.law_order.specs.pg_pieces.Done.{Done, idle, link_of}
-use Rattle.law_order.specs.pg_pieces.Posting.{post, sent_to}
-use Rattle.law_order.specs.pg_repair.Granting.{granted_own}
-use Rattle.law_order.specs.pg_graph.Leaving.{bye_to, without_leave}
-use Rattle.law_order.specs.pg_graph.Walks.{edges_of, most_hops, walk_along, walk_from, walk_of, walk_of_tick, with_few_edges}
-use Rattle.law_order.specs.pg_server.Local.{receive}
-use Rattle.law_order.specs.pg_server.pg_transfer.Asking.{with_notes}
+use Rattle.law_frame.specs.pg_run.pg_base.declared.id.FileId.{FileId}
+use Rattle.law_frame.specs.pg_run.pg_edges.declared.edge.Edge.{Edge}
+use Rattle.law_frame.specs.pg_run.pg_entries.declared.cell.Cell.TheVariants as cells
+use Rattle.law_frame.specs.pg_run.pg_intent.declared.key.IntentKey.TheVariants as intent_key
+use Rattle.law_frame.specs.pg_run.pg_msg.declared.message.Message.{Message}
+use Rattle.law_frame.specs.pg_run.pg_msg.declared.message.Message.TheVariants as message
+use Rattle.law_frame.specs.pg_run.pg_msg.declared.summary.Greeting.TheVariants as greeting
+use Rattle.law_frame.specs.pg_run.pg_msg.declared.work.Work.{Work}
+use Rattle.law_frame.specs.pg_run.pg_msg.Work.{with_tail}
+use Rattle.law_frame.specs.pg_run.pg_names.Names.{fill as fill_names, filled}
+use Rattle.law_frame.specs.pg_run.pg_store.declared.store.Store.{Store}
+use Rattle.law_frame.specs.pg_run.pg_store.Births.{birth_of, with_wishes}
+use Rattle.law_frame.specs.pg_run.pg_store.Links.{is_linked, unlink}
+use Rattle.law_frame.specs.pg_run.pg_store.Seen.{server_of}
+use Rattle.law_frame.specs.pg_run.pg_store.Servers.{next_target}
+use Rattle.law_frame.specs.pg_run.pg_store.Store.{acknowledge, keep_delta, replica_at, replica_of, with_names}
+use Rattle.law_frame.specs.pg_run.pg_store.Wishes.{aim_wish}
+use Rattle.law_frame.proofs.pg_run.pg_store.Given.{pending_may}
+use Rattle.law_frame.specs.pg_run.pg_pieces.Accepting.{ends_to}
+use Rattle.law_frame.specs.pg_run.pg_pieces.Done.{Done, idle, link_of}
+use Rattle.law_frame.specs.pg_run.pg_pieces.Posting.{post, sent_to}
+use Rattle.law_frame.specs.pg_run.pg_repair.Granting.{granted_own}
+use Rattle.law_frame.specs.pg_run.pg_graph.Leaving.{bye_to, without_leave}
+use Rattle.law_frame.specs.pg_run.pg_graph.Walks.{edges_of, most_hops, walk_along, walk_from, walk_of, walk_of_tick, with_few_edges}
+use Rattle.law_frame.specs.pg_run.pg_server.Local.{receive}
+use Rattle.law_frame.specs.pg_run.pg_server.pg_transfer.Asking.{with_notes}
 use Rattle.law_frame.proofs.Keeps.{Keeps}
 use Rattle.law_frame.proofs.Received.{receive_keeps}
 use Rattle.law_intents.proofs.Aimed.{next_aims}

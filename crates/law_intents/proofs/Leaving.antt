@@ -6,40 +6,40 @@ use Rattle.std.proofs.lemmas.Bool.{and_parts, eqb-true, false≢true}
 use Rattle.std.proofs.lemmas.List.{get_or_default}
 use Rattle.std.proofs.lemmas.List.Elements.{All-head, All-nil, All-tail}
 use Rattle.std.proofs.lemmas.Option.{none-some, same_Some}
-use Rattle.law_order.specs.pg_base.declared.id.FileId.{FileId}
-use Rattle.law_order.specs.pg_base.Id.{is_same_file}
-use Rattle.law_order.proofs.pg_base.Orders.{is_same_file-refl, is_same_file-true}
-use Rattle.law_order.specs.pg_edges.declared.edge.Edge.{Edge}
-use Rattle.law_order.specs.pg_edges.declared.key.Key.{Key}
-use Rattle.law_order.specs.pg_edges.Edges.{edge_to, is_listed, keys_if_born}
-use Rattle.law_order.specs.pg_entries.declared.entry.Entry.{Entry}
-use Rattle.law_order.specs.pg_intent.declared.intent.Intent.{Intent}
-use Rattle.law_order.specs.pg_intent.declared.intent.Intent.TheVariants as intent
-use Rattle.law_order.specs.pg_intent.declared.key.IntentKey.{IntentKey}
-use Rattle.law_order.specs.pg_intent.declared.key.IntentKey.TheVariants as intent_key
-use Rattle.law_order.specs.pg_intent.Intent.{is_about, key_of, target_of}
-use Rattle.law_order.specs.pg_intent.Intents.{begun, begun_on, has_key, intent_at, stands}
-use Rattle.law_order.specs.pg_intent.Key.{is_same_key}
-use Rattle.law_order.proofs.pg_intent.Found.{begun_found}
-use Rattle.law_order.specs.pg_msg.declared.work.Slot.{Slot}
-use Rattle.law_order.specs.pg_msg.declared.work.Work.{Work}
-use Rattle.law_order.specs.pg_msg.Work.{with_begun}
-use Rattle.law_order.proofs.pg_names.Gone.{gone_away, gone_own_other}
-use Rattle.law_order.specs.pg_register.Flag.{is_removed}
-use Rattle.law_order.specs.pg_replica.declared.replica.Replica.{Replica}
-use Rattle.law_order.specs.pg_replica.Replica.{are_none}
-use Rattle.law_order.specs.pg_replica.Replicas.{or_nothing}
-use Rattle.law_order.specs.pg_house.Facts.{IsOneOf}
-use Rattle.law_order.specs.pg_store.declared.store.Store.{Store}
-use Rattle.law_order.specs.pg_store.Beginning.{let_go, with_intents}
-use Rattle.law_order.specs.pg_store.Links.{is_clean}
-use Rattle.law_order.specs.pg_store.Store.{replica_at, replica_of}
-use Rattle.law_order.specs.pg_store.Together.{AreBirths}
-use Rattle.law_order.specs.pg_pieces.Done.{Done, idle}
-use Rattle.law_order.specs.pg_pieces.Intending.{begin_intent, with_begun_if}
-use Rattle.law_order.proofs.pg_graph.LeaveOk.{found_keyed}
-use Rattle.law_order.specs.theory_flood_pieces.Whole.{AreEdges, IsEdge, IsOther, IsWhole}
-use Rattle.law_order.proofs.theory_flood_pieces.Choices.{found_replica}
+use Rattle.law_frame.specs.pg_run.pg_base.declared.id.FileId.{FileId}
+use Rattle.law_frame.specs.pg_run.pg_base.Id.{is_same_file}
+use Rattle.law_frame.proofs.pg_run.pg_base.Orders.{is_same_file-refl, is_same_file-true}
+use Rattle.law_frame.specs.pg_run.pg_edges.declared.edge.Edge.{Edge}
+use Rattle.law_frame.specs.pg_run.pg_edges.declared.key.Key.{Key}
+use Rattle.law_frame.specs.pg_run.pg_edges.Edges.{edge_to, is_listed, keys_if_born}
+use Rattle.law_frame.specs.pg_run.pg_entries.declared.entry.Entry.{Entry}
+use Rattle.law_frame.specs.pg_run.pg_intent.declared.intent.Intent.{Intent}
+use Rattle.law_frame.specs.pg_run.pg_intent.declared.intent.Intent.TheVariants as intent
+use Rattle.law_frame.specs.pg_run.pg_intent.declared.key.IntentKey.{IntentKey}
+use Rattle.law_frame.specs.pg_run.pg_intent.declared.key.IntentKey.TheVariants as intent_key
+use Rattle.law_frame.specs.pg_run.pg_intent.Intent.{is_about, key_of, target_of}
+use Rattle.law_frame.specs.pg_run.pg_intent.Intents.{begun, begun_on, has_key, intent_at, stands}
+use Rattle.law_frame.specs.pg_run.pg_intent.Key.{is_same_key}
+use Rattle.law_frame.proofs.pg_run.pg_intent.Found.{begun_found}
+use Rattle.law_frame.specs.pg_run.pg_msg.declared.work.Slot.{Slot}
+use Rattle.law_frame.specs.pg_run.pg_msg.declared.work.Work.{Work}
+use Rattle.law_frame.specs.pg_run.pg_msg.Work.{with_begun}
+use Rattle.law_frame.proofs.pg_run.pg_names.Gone.{gone_away, gone_own_other}
+use Rattle.law_frame.specs.pg_run.pg_register.Flag.{is_removed}
+use Rattle.law_frame.specs.pg_run.pg_replica.declared.replica.Replica.{Replica}
+use Rattle.law_frame.specs.pg_run.pg_replica.Replica.{are_none}
+use Rattle.law_frame.specs.pg_run.pg_replica.Replicas.{or_nothing}
+use Rattle.law_frame.specs.pg_run.pg_house.Facts.{IsOneOf}
+use Rattle.law_frame.specs.pg_run.pg_store.declared.store.Store.{Store}
+use Rattle.law_frame.specs.pg_run.pg_store.Beginning.{let_go, with_intents}
+use Rattle.law_frame.specs.pg_run.pg_store.Links.{is_clean}
+use Rattle.law_frame.specs.pg_run.pg_store.Store.{replica_at, replica_of}
+use Rattle.law_frame.specs.pg_run.pg_store.Together.{AreBirths}
+use Rattle.law_frame.specs.pg_run.pg_pieces.Done.{Done, idle}
+use Rattle.law_frame.specs.pg_run.pg_pieces.Intending.{begin_intent, with_begun_if}
+use Rattle.law_frame.proofs.pg_run.pg_graph.LeaveOk.{found_keyed}
+use Rattle.law_frame.specs.pg_run.theory_flood_pieces.Whole.{AreEdges, IsEdge, IsOther, IsWhole}
+use Rattle.law_frame.proofs.pg_run.theory_flood_pieces.Choices.{found_replica}
 use Rattle.law_order.proofs.Intended.{all_begun}
 use Rattle.law_intents.proofs.Asked.{rejoined_target}
 use Rattle.law_intents.proofs.Far.{Aims, Far, IsBeside, beside_either, beside_itself, far_work}

@@ -3,18 +3,18 @@ use Rattle.std.proofs.Common.{ℕ, ◌≡◌, List, [], refl, sym, subst}
 use Rattle.std.proofs.lemmas.Bool.{false≢true}
 use Rattle.std.proofs.lemmas.List.Elements.{All-nil}
 use Rattle.std.proofs.lemmas.Option.{none-some}
-use Rattle.law_order.specs.pg_event.declared.event.Event.{Event}
-use Rattle.law_order.specs.pg_intent.declared.intent.Intent.{Intent}
-use Rattle.law_order.specs.pg_intent.Intent.{target_of}
-use Rattle.law_order.specs.theory_flood.World.{after}
-use Rattle.law_order.proofs.theory_flood.Flood.{after_itself}
-use Rattle.law_order.specs.pg_store.declared.store.Store.{Store}
-use Rattle.law_order.specs.pg_store.Store.{new_store}
-use Rattle.law_order.specs.pg_server.Local.{effect}
-use Rattle.law_order.specs.pg_run.Run.{World, effect_step, run, world_after}
-use Rattle.law_order.proofs.pg_run.Frame.{Acts, each_after, holds_in_runs, no_server_comes}
-use Rattle.law_order.specs.pg_run.Run.{Taking}
-use Rattle.law_order.specs.pg_run.Views.{ViewsArePrefixes}
+use Rattle.law_frame.specs.pg_run.pg_event.declared.event.Event.{Event}
+use Rattle.law_frame.specs.pg_run.pg_intent.declared.intent.Intent.{Intent}
+use Rattle.law_frame.specs.pg_run.pg_intent.Intent.{target_of}
+use Rattle.law_frame.specs.pg_run.theory_flood.World.{after}
+use Rattle.law_frame.proofs.pg_run.theory_flood.Flood.{after_itself}
+use Rattle.law_frame.specs.pg_run.pg_store.declared.store.Store.{Store}
+use Rattle.law_frame.specs.pg_run.pg_store.Store.{new_store}
+use Rattle.law_frame.specs.pg_run.pg_server.Local.{effect}
+use Rattle.law_frame.specs.pg_run.Run.{World, effect_step, run, world_after}
+use Rattle.law_frame.proofs.pg_run.Frame.{Acts, each_after, holds_in_runs, no_server_comes}
+use Rattle.law_frame.specs.pg_run.Run.{Taking}
+use Rattle.law_frame.specs.pg_run.Views.{ViewsArePrefixes}
 use Rattle.law_order.specs.Laws.{files_of}
 use Rattle.law_order.specs.Named.{naming}
 use Rattle.law_order.proofs.Ended.{IsAtRest}

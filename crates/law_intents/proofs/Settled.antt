@@ -3,28 +3,28 @@
 use Rattle.std.proofs.Common.{ℕ, ◌≡◌, ◌⊎◌, true, false, drop, length, List, [], ◌∷◌, Option, None, Some, inl, inr, refl, sym, ap, subst, ◌∙◌, arith}
 use Rattle.std.proofs.lemmas.Bool.Decides.{nat_tests}
 use Rattle.std.proofs.lemmas.Option.{none-some, same_Some}
-use Rattle.law_order.specs.pg_base.declared.id.FileId.{FileId}
-use Rattle.law_order.specs.pg_base.Stamp.{is_before}
-use Rattle.law_order.specs.pg_msg.declared.work.Slot.{Slot}
-use Rattle.law_order.specs.pg_msg.declared.work.Touched.{Touched}
-use Rattle.law_order.specs.pg_names.declared.attributes.Attributes.{Attributes}
-use Rattle.law_order.specs.pg_names.Names.{NamesValue, own_at}
-use Rattle.law_order.specs.pg_register.declared.place.Place.{Place}
-use Rattle.law_order.specs.pg_house.Facts.{IsHeld, IsNoted, IsOneOf, IsReplaced}
-use Rattle.law_order.specs.pg_house.House.{house}
-use Rattle.law_order.specs.pg_house.Work.{State, is_root, state_of}
-use Rattle.law_order.proofs.pg_house.Replaced.{noted}
+use Rattle.law_frame.specs.pg_run.pg_base.declared.id.FileId.{FileId}
+use Rattle.law_frame.specs.pg_run.pg_base.Stamp.{is_before}
+use Rattle.law_frame.specs.pg_run.pg_msg.declared.work.Slot.{Slot}
+use Rattle.law_frame.specs.pg_run.pg_msg.declared.work.Touched.{Touched}
+use Rattle.law_frame.specs.pg_run.pg_names.declared.attributes.Attributes.{Attributes}
+use Rattle.law_frame.specs.pg_run.pg_names.Names.{NamesValue, own_at}
+use Rattle.law_frame.specs.pg_run.pg_register.declared.place.Place.{Place}
+use Rattle.law_frame.specs.pg_run.pg_house.Facts.{IsHeld, IsNoted, IsOneOf, IsReplaced}
+use Rattle.law_frame.specs.pg_run.pg_house.House.{house}
+use Rattle.law_frame.specs.pg_run.pg_house.Work.{State, is_root, state_of}
+use Rattle.law_frame.proofs.pg_run.pg_house.Replaced.{noted}
 use Rattle.theory_listing_house.specs.Listing.{own_place}
 use Rattle.theory_listing_house.proofs.Given.{nothing_begins, own_places_grow}
 use Rattle.theory_listing_house.proofs.Seen.{own_is}
-use Rattle.law_order.specs.pg_store.declared.store.Store.{Store}
-use Rattle.law_order.specs.pg_store.Store.{touch, with_names}
-use Rattle.law_order.specs.pg_pieces.Done.{Done}
-use Rattle.law_order.specs.pg_cells.Settling.{rules, settle, touch_all}
-use Rattle.law_order.specs.theory_flood_pieces.Whole.{IsWhole}
-use Rattle.law_order.proofs.theory_flood_pieces.Settling.{whole_raised, whole_rules}
+use Rattle.law_frame.specs.pg_run.pg_store.declared.store.Store.{Store}
+use Rattle.law_frame.specs.pg_run.pg_store.Store.{touch, with_names}
+use Rattle.law_frame.specs.pg_run.pg_pieces.Done.{Done}
+use Rattle.law_frame.specs.pg_run.pg_cells.Settling.{rules, settle, touch_all}
+use Rattle.law_frame.specs.pg_run.theory_flood_pieces.Whole.{IsWhole}
+use Rattle.law_frame.proofs.pg_run.theory_flood_pieces.Settling.{whole_raised, whole_rules}
 use Rattle.law_order.proofs.HouseFrame.{house_frame, sends_same}
-use Rattle.law_order.proofs.pg_cells.Settled.{settle_gives}
+use Rattle.law_frame.proofs.pg_run.pg_cells.Settled.{settle_gives}
 use Rattle.law_order.proofs.Sounding.{rules_as_before, rules_intents}
 use Rattle.law_intents.proofs.Far.{Far, far_on, far_raised}
 use Rattle.law_intents.proofs.Goes.{GoesTo, IsLeftIn, IsSlot}

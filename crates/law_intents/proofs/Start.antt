@@ -5,23 +5,23 @@ use Rattle.std.specs.List.{list_any}
 use Rattle.std.proofs.lemmas.Bool.{eqb-true}
 use Rattle.std.proofs.lemmas.Bool.Decides.{nat_tests}
 use Rattle.std.proofs.lemmas.List.Elements.{All-head, All-nil, All-tail}
-use Rattle.law_order.specs.pg_base.declared.id.FileId.{FileId}
-use Rattle.law_order.specs.pg_base.Id.{is_same_file}
-use Rattle.law_order.proofs.pg_base.Orders.{is_same_file-true}
-use Rattle.law_order.specs.pg_edges.declared.edge.Edge.{Edge}
-use Rattle.law_order.specs.pg_edges.Edges.{is_listed}
-use Rattle.law_order.specs.pg_register.declared.flag.Flag.{Flag}
-use Rattle.law_order.specs.pg_register.Flag.{flag_of, is_live, is_raised_with, newest}
-use Rattle.law_order.specs.pg_register.Place.{root}
-use Rattle.law_order.proofs.pg_register.ByServer.{flag_of-join_flag}
-use Rattle.law_order.specs.pg_replica.Root.{clean_edges}
-use Rattle.law_order.specs.pg_store.declared.store.Store.{Store}
-use Rattle.law_order.specs.pg_store.Start.{first_flag, first_flags}
-use Rattle.law_order.specs.pg_store.Store.{new_store}
-use Rattle.law_order.specs.pg_pieces.Golds.{is_gold}
-use Rattle.law_order.specs.pg_intentions.Seeks.{has_gold_apart, has_gold_edge, is_apart, is_seeking}
-use Rattle.law_order.proofs.theory_flood_pieces.Listed.{listed_first, none_least}
-use Rattle.law_order.proofs.theory_flood_pieces.Start.{Root}
+use Rattle.law_frame.specs.pg_run.pg_base.declared.id.FileId.{FileId}
+use Rattle.law_frame.specs.pg_run.pg_base.Id.{is_same_file}
+use Rattle.law_frame.proofs.pg_run.pg_base.Orders.{is_same_file-true}
+use Rattle.law_frame.specs.pg_run.pg_edges.declared.edge.Edge.{Edge}
+use Rattle.law_frame.specs.pg_run.pg_edges.Edges.{is_listed}
+use Rattle.law_frame.specs.pg_run.pg_register.declared.flag.Flag.{Flag}
+use Rattle.law_frame.specs.pg_run.pg_register.Flag.{flag_of, is_live, is_raised_with, newest}
+use Rattle.law_frame.specs.pg_run.pg_register.Place.{root}
+use Rattle.law_frame.proofs.pg_run.pg_register.ByServer.{flag_of-join_flag}
+use Rattle.law_frame.specs.pg_run.pg_replica.Root.{clean_edges}
+use Rattle.law_frame.specs.pg_run.pg_store.declared.store.Store.{Store}
+use Rattle.law_frame.specs.pg_run.pg_store.Start.{first_flag, first_flags}
+use Rattle.law_frame.specs.pg_run.pg_store.Store.{new_store}
+use Rattle.law_frame.specs.pg_run.pg_pieces.Golds.{is_gold}
+use Rattle.law_frame.specs.pg_run.pg_intentions.Seeks.{has_gold_apart, has_gold_edge, is_apart, is_seeking}
+use Rattle.law_frame.proofs.pg_run.theory_flood_pieces.Listed.{listed_first, none_least}
+use Rattle.law_frame.proofs.pg_run.theory_flood_pieces.Start.{Root}
 use Rattle.law_order.proofs.FlagsSay.{all_join}
 
 -- ---- flags

@@ -4,49 +4,49 @@ use Rattle.std.specs.List.{IsAmong}
 use Rattle.std.proofs.lemmas.Bool.{and_parts, false≢true, le-leb, ne_eqb, or_left, or_right}
 use Rattle.std.proofs.lemmas.List.Elements.{All-cons, All-head, All-nil, All-tail}
 use Rattle.std.proofs.lemmas.Option.{none-some, same_Some}
-use Rattle.law_order.specs.pg_base.declared.id.FileId.{FileId}
-use Rattle.law_order.specs.pg_base.Id.{is_same_file}
-use Rattle.law_order.specs.pg_base.Stamp.{UpTo}
-use Rattle.law_order.proofs.pg_base.Orders.{UpTo-refl, is_before-true, is_same_file-true}
-use Rattle.law_order.specs.pg_entries.declared.entry.Entry.{Entry}
-use Rattle.law_order.specs.pg_entries.Entry.{is_listed}
-use Rattle.law_order.specs.pg_intent.declared.intent.Intent.{Intent}
-use Rattle.law_order.specs.pg_intent.declared.intent.Intent.TheVariants as intent
-use Rattle.law_order.specs.pg_intent.declared.key.IntentKey.{IntentKey}
-use Rattle.law_order.specs.pg_intent.declared.key.IntentKey.TheVariants as key
-use Rattle.law_order.specs.pg_intent.Intent.{key_of, target_of}
-use Rattle.law_order.specs.pg_intent.Intents.{has_key, intent_at, stands}
-use Rattle.law_order.proofs.pg_intent.Found.{stands_is}
-use Rattle.law_order.proofs.pg_intent.SameKey.{is_same_key-refl}
-use Rattle.law_order.specs.pg_msg.declared.message.Message.TheVariants as message
-use Rattle.law_order.specs.pg_names.declared.attributes.Attributes.{Attributes}
-use Rattle.law_order.specs.pg_names.Names.{InodeValue, cell_at, known, own_at, own_of}
-use Rattle.law_order.specs.pg_register.declared.place.Place.{Place}
-use Rattle.law_order.specs.pg_register.Flag.{is_raised, is_removed}
-use Rattle.law_order.specs.pg_register.Place.{root}
-use Rattle.law_order.specs.pg_replica.declared.replica.Replica.{Replica}
-use Rattle.law_order.specs.pg_replica.Replicas.{lists_peer}
-use Rattle.law_order.specs.pg_store.declared.store.Store.{Store}
-use Rattle.law_order.specs.pg_store.Births.{birth_of}
-use Rattle.law_order.specs.pg_store.Links.{is_linked}
-use Rattle.law_order.specs.pg_store.Seen.{removed_of, server_of}
-use Rattle.law_order.specs.pg_store.Servers.{is_live_other}
-use Rattle.law_order.specs.pg_store.Store.{is_held, replica_at}
-use Rattle.law_order.specs.pg_pieces.Golds.{flags_of}
-use Rattle.law_order.specs.pg_graph.Leaving.{may_still_leave}
-use Rattle.law_order.proofs.pg_graph.LeaveOk.{found_keyed}
-use Rattle.law_order.specs.pg_intentions.Confirms.{is_doubtful_cell}
-use Rattle.law_order.specs.pg_intentions.Fills.{files_to_fill, is_in}
-use Rattle.law_order.specs.pg_intentions.Needed.{IsToFill as IsNeeded}
-use Rattle.law_order.specs.pg_intentions.Requests.{bye_message, confirm_message, leave_message}
-use Rattle.law_order.proofs.pg_intentions.Idle.{nothing_to_do}
-use Rattle.law_order.proofs.pg_intentions.Leaves.{AllPass, Passes, all_moved}
-use Rattle.law_order.proofs.pg_intentions.Needs.{what_is_needed}
-use Rattle.law_order.specs.pg_server.Local.{without_sources, without_volatile}
-use Rattle.law_order.proofs.theory_flood_pieces.Together.{held_of_replica, own_of_held}
-use Rattle.law_order.specs.pg_run.Intending.{IntendsInOrder, IntentionsAreInOrder, IsPatchOf, IsToFill, LeavesStand}
-use Rattle.law_order.specs.pg_run.Run.{run}
-use Rattle.law_order.specs.pg_run.Views.{ViewsArePrefixes}
+use Rattle.law_frame.specs.pg_run.pg_base.declared.id.FileId.{FileId}
+use Rattle.law_frame.specs.pg_run.pg_base.Id.{is_same_file}
+use Rattle.law_frame.specs.pg_run.pg_base.Stamp.{UpTo}
+use Rattle.law_frame.proofs.pg_run.pg_base.Orders.{UpTo-refl, is_before-true, is_same_file-true}
+use Rattle.law_frame.specs.pg_run.pg_entries.declared.entry.Entry.{Entry}
+use Rattle.law_frame.specs.pg_run.pg_entries.Entry.{is_listed}
+use Rattle.law_frame.specs.pg_run.pg_intent.declared.intent.Intent.{Intent}
+use Rattle.law_frame.specs.pg_run.pg_intent.declared.intent.Intent.TheVariants as intent
+use Rattle.law_frame.specs.pg_run.pg_intent.declared.key.IntentKey.{IntentKey}
+use Rattle.law_frame.specs.pg_run.pg_intent.declared.key.IntentKey.TheVariants as key
+use Rattle.law_frame.specs.pg_run.pg_intent.Intent.{key_of, target_of}
+use Rattle.law_frame.specs.pg_run.pg_intent.Intents.{has_key, intent_at, stands}
+use Rattle.law_frame.proofs.pg_run.pg_intent.Found.{stands_is}
+use Rattle.law_frame.proofs.pg_run.pg_intent.SameKey.{is_same_key-refl}
+use Rattle.law_frame.specs.pg_run.pg_msg.declared.message.Message.TheVariants as message
+use Rattle.law_frame.specs.pg_run.pg_names.declared.attributes.Attributes.{Attributes}
+use Rattle.law_frame.specs.pg_run.pg_names.Names.{InodeValue, cell_at, known, own_at, own_of}
+use Rattle.law_frame.specs.pg_run.pg_register.declared.place.Place.{Place}
+use Rattle.law_frame.specs.pg_run.pg_register.Flag.{is_raised, is_removed}
+use Rattle.law_frame.specs.pg_run.pg_register.Place.{root}
+use Rattle.law_frame.specs.pg_run.pg_replica.declared.replica.Replica.{Replica}
+use Rattle.law_frame.specs.pg_run.pg_replica.Replicas.{lists_peer}
+use Rattle.law_frame.specs.pg_run.pg_store.declared.store.Store.{Store}
+use Rattle.law_frame.specs.pg_run.pg_store.Births.{birth_of}
+use Rattle.law_frame.specs.pg_run.pg_store.Links.{is_linked}
+use Rattle.law_frame.specs.pg_run.pg_store.Seen.{removed_of, server_of}
+use Rattle.law_frame.specs.pg_run.pg_store.Servers.{is_live_other}
+use Rattle.law_frame.specs.pg_run.pg_store.Store.{is_held, replica_at}
+use Rattle.law_frame.specs.pg_run.pg_pieces.Golds.{flags_of}
+use Rattle.law_frame.specs.pg_run.pg_graph.Leaving.{may_still_leave}
+use Rattle.law_frame.proofs.pg_run.pg_graph.LeaveOk.{found_keyed}
+use Rattle.law_frame.specs.pg_run.pg_intentions.Confirms.{is_doubtful_cell}
+use Rattle.law_frame.specs.pg_run.pg_intentions.Fills.{files_to_fill, is_in}
+use Rattle.law_frame.specs.pg_run.pg_intentions.Needed.{IsToFill as IsNeeded}
+use Rattle.law_frame.specs.pg_run.pg_intentions.Requests.{bye_message, confirm_message, leave_message}
+use Rattle.law_frame.proofs.pg_run.pg_intentions.Idle.{nothing_to_do}
+use Rattle.law_frame.proofs.pg_run.pg_intentions.Leaves.{AllPass, Passes, all_moved}
+use Rattle.law_frame.proofs.pg_run.pg_intentions.Needs.{what_is_needed}
+use Rattle.law_frame.specs.pg_run.pg_server.Local.{without_sources, without_volatile}
+use Rattle.law_frame.proofs.pg_run.theory_flood_pieces.Together.{held_of_replica, own_of_held}
+use Rattle.law_frame.specs.pg_run.Intending.{IntendsInOrder, IntentionsAreInOrder, IsPatchOf, IsToFill, LeavesStand}
+use Rattle.law_frame.specs.pg_run.Run.{run}
+use Rattle.law_frame.specs.pg_run.Views.{ViewsArePrefixes}
 use Rattle.law_order.specs.Laws.{files_of}
 use Rattle.law_order.specs.Named.{naming}
 use Rattle.law_order.specs.Saying.{AreIntended, IsIntended, Saying}

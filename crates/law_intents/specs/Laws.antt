@@ -1,15 +1,15 @@
 -- What servers intend along every run.
 use Rattle.std.specs.Prelude.{ℕ, ◌≡◌, [], All, List, Some}
-use Rattle.law_order.specs.pg_event.declared.event.Event.{Event}
-use Rattle.law_order.specs.pg_intent.declared.intent.Intent.{Intent}
-use Rattle.law_order.specs.pg_msg.declared.message.Message.{Message}
-use Rattle.law_order.specs.pg_msg.declared.work.Work.{Work}
-use Rattle.law_order.specs.pg_store.declared.store.Store.{Store}
-use Rattle.law_order.specs.pg_pieces.Done.{idle}
-use Rattle.law_order.specs.pg_intentions.Beginning.{begin_end}
-use Rattle.law_order.specs.pg_intentions.Requests.{request}
-use Rattle.law_order.specs.pg_server.Local.{without_sources, without_volatile}
-use Rattle.law_order.specs.pg_run.Laws.{AtEach, store_after}
+use Rattle.law_frame.specs.pg_run.pg_event.declared.event.Event.{Event}
+use Rattle.law_frame.specs.pg_run.pg_intent.declared.intent.Intent.{Intent}
+use Rattle.law_frame.specs.pg_run.pg_msg.declared.message.Message.{Message}
+use Rattle.law_frame.specs.pg_run.pg_msg.declared.work.Work.{Work}
+use Rattle.law_frame.specs.pg_run.pg_store.declared.store.Store.{Store}
+use Rattle.law_frame.specs.pg_run.pg_pieces.Done.{idle}
+use Rattle.law_frame.specs.pg_run.pg_intentions.Beginning.{begin_end}
+use Rattle.law_frame.specs.pg_run.pg_intentions.Requests.{request}
+use Rattle.law_frame.specs.pg_run.pg_server.Local.{without_sources, without_volatile}
+use Rattle.law_frame.specs.pg_run.Laws.{AtEach, store_after}
 
 -- no intention ends or begins, where no place was replaced, no doubtful cell came and no edge was
 -- made

@@ -1,8 +1,8 @@
 //! What servers intend along every run. Each law is a clause of a function that does nothing.
 
 ghost use Rattle.std.specs.Prelude.{ℕ};
-ghost use Rattle.law_order.specs.pg_run.Intending.{IntentionsAreInOrder};
-ghost use Rattle.law_order.specs.pg_run.Views.{ViewsArePrefixes};
+ghost use Rattle.law_frame.specs.pg_run.Intending.{IntentionsAreInOrder};
+ghost use Rattle.law_frame.specs.pg_run.Views.{ViewsArePrefixes};
 ghost use Rattle.law_intents.specs.Laws.{IntentionsHaveRequests, NothingIsLeftToDo};
 
 /// After every event Fills stand of just what is to be filled, so that the parent of whatever is

@@ -2,28 +2,28 @@
 use Rattle.std.proofs.Common.{ℕ, ◌≡◌, true, List, [], ◌∷◌, ◌++◌, append_assoc, Option, None, Some, option_map, eq-eqb, refl, sym, ap, subst, ◌∙◌, inl, inr, ◌⊎◌}
 use Rattle.std.proofs.lemmas.Bool.{false≢true}
 use Rattle.std.proofs.lemmas.Option.{none-some, same_Some}
-use Rattle.law_births.specs.pg_base.declared.id.FileId.{FileId}
-use Rattle.law_births.specs.pg_edges.declared.key.Key.{Key}
-use Rattle.law_births.specs.pg_entries.declared.cell.Cell.{Cell}
-use Rattle.law_births.specs.pg_event.declared.event.Event.{Event}
-use Rattle.law_births.specs.theory_flood.Server.{Holds}
-use Rattle.law_births.proofs.theory_flood.Flood.{after_itself}
-use Rattle.law_births.specs.theory_flood_pieces.UpTo.{IsUpTo}
-use Rattle.law_births.specs.pg_replica.declared.replica.Replica.{Replica}
-use Rattle.law_births.specs.pg_replica.Replicas.{is_of_birth}
-use Rattle.law_births.specs.pg_server.declared.input.Input.{Input}
-use Rattle.law_births.specs.pg_server.declared.input.Input.TheVariants as input
-use Rattle.law_births.specs.pg_server.Local.{effect, takes_effect}
-use Rattle.law_births.specs.pg_store.declared.store.Store.{Store}
-use Rattle.law_births.specs.pg_store.Cells.{cell_at}
-use Rattle.law_births.specs.pg_store.Store.{replica_at}
-use Rattle.law_births.specs.pg_store.Together.{IsOver, birth_at}
-use Rattle.law_births.proofs.pg_store.Over.{over_stays}
-use Rattle.law_births.specs.pg_run.Carried.{gone_in}
-use Rattle.law_births.specs.pg_run.Laws.{TakesIn, store_after}
-use Rattle.law_births.specs.pg_run.Leaving.{Goes, Went, WhatWentIsOver}
-use Rattle.law_births.specs.pg_run.Run.{Step, World, run, start}
-use Rattle.law_births.proofs.pg_run.Frame.{acts_is, next_is, run_more}
+use Rattle.pg_run.specs.pg_base.declared.id.FileId.{FileId}
+use Rattle.pg_run.specs.pg_edges.declared.key.Key.{Key}
+use Rattle.pg_run.specs.pg_entries.declared.cell.Cell.{Cell}
+use Rattle.pg_run.specs.pg_event.declared.event.Event.{Event}
+use Rattle.pg_run.specs.theory_flood.Server.{Holds}
+use Rattle.pg_run.proofs.theory_flood.Flood.{after_itself}
+use Rattle.pg_run.specs.theory_flood_pieces.UpTo.{IsUpTo}
+use Rattle.pg_run.specs.pg_replica.declared.replica.Replica.{Replica}
+use Rattle.pg_run.specs.pg_replica.Replicas.{is_of_birth}
+use Rattle.pg_run.specs.pg_server.declared.input.Input.{Input}
+use Rattle.pg_run.specs.pg_server.declared.input.Input.TheVariants as input
+use Rattle.pg_run.specs.pg_server.Local.{effect, takes_effect}
+use Rattle.pg_run.specs.pg_store.declared.store.Store.{Store}
+use Rattle.pg_run.specs.pg_store.Cells.{cell_at}
+use Rattle.pg_run.specs.pg_store.Store.{replica_at}
+use Rattle.pg_run.specs.pg_store.Together.{IsOver, birth_at}
+use Rattle.pg_run.proofs.pg_store.Over.{over_stays}
+use Rattle.pg_run.specs.Carried.{gone_in}
+use Rattle.pg_run.specs.Laws.{TakesIn, store_after}
+use Rattle.pg_run.specs.Leaving.{Goes, Went, WhatWentIsOver}
+use Rattle.pg_run.specs.Run.{Step, World, run, start}
+use Rattle.pg_run.proofs.Frame.{acts_is, next_is, run_more}
 use Rattle.law_leaving.specs.Premises.{StandOn}
 
 -- a replica is held on in another store, with its birth, and holds no less there

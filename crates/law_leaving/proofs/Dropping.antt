@@ -5,41 +5,41 @@ use Rattle.std.specs.List.{find}
 use Rattle.std.proofs.lemmas.Bool.{false≢true}
 use Rattle.std.proofs.lemmas.List.Elements.{All-cons, All-nil}
 use Rattle.std.proofs.lemmas.Option.{none-some, same_Some}
-use Rattle.law_births.specs.pg_base.declared.id.FileId.{FileId}
-use Rattle.law_births.specs.pg_pieces.Golds.{flags_of, is_gold}
-use Rattle.law_births.specs.pg_pieces.Parting.{is_unclean}
-use Rattle.law_births.specs.pg_edges.declared.edge.Edge.{Edge}
-use Rattle.law_births.specs.pg_edges.declared.key.Key.{Key}
-use Rattle.law_births.specs.pg_edges.declared.key.Key.TheVariants as key
-use Rattle.law_births.specs.pg_edges.Edges.{is_listed, is_none}
-use Rattle.law_births.specs.pg_entries.declared.cell.Cell.{Cell}
-use Rattle.law_births.specs.pg_event.declared.event.Event.{Event}
-use Rattle.law_births.specs.theory_flood.Laws.{IsClean}
-use Rattle.law_births.specs.theory_flood.Server.{Replica as Seen}
-use Rattle.law_births.proofs.theory_flood.Worlds.{clean_tags}
-use Rattle.law_births.specs.pg_intent.declared.intent.Intent.TheVariants as intent
-use Rattle.law_births.specs.pg_intent.declared.key.IntentKey.TheVariants as intent_key
-use Rattle.law_births.specs.pg_intent.Intents.{has_key}
+use Rattle.pg_run.specs.pg_base.declared.id.FileId.{FileId}
+use Rattle.pg_run.specs.pg_pieces.Golds.{flags_of, is_gold}
+use Rattle.pg_run.specs.pg_pieces.Parting.{is_unclean}
+use Rattle.pg_run.specs.pg_edges.declared.edge.Edge.{Edge}
+use Rattle.pg_run.specs.pg_edges.declared.key.Key.{Key}
+use Rattle.pg_run.specs.pg_edges.declared.key.Key.TheVariants as key
+use Rattle.pg_run.specs.pg_edges.Edges.{is_listed, is_none}
+use Rattle.pg_run.specs.pg_entries.declared.cell.Cell.{Cell}
+use Rattle.pg_run.specs.pg_event.declared.event.Event.{Event}
+use Rattle.pg_run.specs.theory_flood.Laws.{IsClean}
+use Rattle.pg_run.specs.theory_flood.Server.{Replica as Seen}
+use Rattle.pg_run.proofs.theory_flood.Worlds.{clean_tags}
+use Rattle.pg_run.specs.pg_intent.declared.intent.Intent.TheVariants as intent
+use Rattle.pg_run.specs.pg_intent.declared.key.IntentKey.TheVariants as intent_key
+use Rattle.pg_run.specs.pg_intent.Intents.{has_key}
 use Rattle.theory_leaving.specs.Moment.{IsKept}
 use Rattle.theory_leaving.specs.Protocol.{Word}
 use Rattle.theory_leaving.specs.Rule.{MayDrop, Turn}
-use Rattle.law_births.specs.pg_msg.declared.message.Packet.{Packet}
-use Rattle.law_births.specs.pg_msg.declared.message.Sent.{Sent}
-use Rattle.law_births.specs.theory_flood_pieces.Seen.{seen}
-use Rattle.law_births.specs.pg_register.declared.flag.Flag.{Flag}
-use Rattle.law_births.specs.pg_register.Flag.{is_raised, is_raised_with}
-use Rattle.law_births.specs.pg_replica.declared.replica.Replica.{Replica}
-use Rattle.law_births.specs.pg_replica.Replicas.{or_nothing}
-use Rattle.law_births.specs.pg_server.declared.input.Input.TheVariants as input
-use Rattle.law_births.specs.pg_server.Local.{effect, takes_effect}
-use Rattle.law_births.specs.pg_store.declared.store.Store.{Store}
-use Rattle.law_births.specs.pg_store.Births.{birth_of}
-use Rattle.law_births.specs.pg_store.Seen.{server_of}
-use Rattle.law_births.specs.pg_store.Store.{replica_of}
-use Rattle.law_births.specs.pg_store.Together.{birth_at}
-use Rattle.law_births.specs.pg_run.Carried.{gone_in}
-use Rattle.law_births.specs.pg_run.Laws.{TakesIn, store_after}
-use Rattle.law_births.specs.pg_run.Run.{Taking, run, taking_in}
+use Rattle.pg_run.specs.pg_msg.declared.message.Packet.{Packet}
+use Rattle.pg_run.specs.pg_msg.declared.message.Sent.{Sent}
+use Rattle.pg_run.specs.theory_flood_pieces.Seen.{seen}
+use Rattle.pg_run.specs.pg_register.declared.flag.Flag.{Flag}
+use Rattle.pg_run.specs.pg_register.Flag.{is_raised, is_raised_with}
+use Rattle.pg_run.specs.pg_replica.declared.replica.Replica.{Replica}
+use Rattle.pg_run.specs.pg_replica.Replicas.{or_nothing}
+use Rattle.pg_run.specs.pg_server.declared.input.Input.TheVariants as input
+use Rattle.pg_run.specs.pg_server.Local.{effect, takes_effect}
+use Rattle.pg_run.specs.pg_store.declared.store.Store.{Store}
+use Rattle.pg_run.specs.pg_store.Births.{birth_of}
+use Rattle.pg_run.specs.pg_store.Seen.{server_of}
+use Rattle.pg_run.specs.pg_store.Store.{replica_of}
+use Rattle.pg_run.specs.pg_store.Together.{birth_at}
+use Rattle.pg_run.specs.Carried.{gone_in}
+use Rattle.pg_run.specs.Laws.{TakesIn, store_after}
+use Rattle.pg_run.specs.Run.{Taking, run, taking_in}
 use Rattle.law_leaving.specs.Premises.{StandOn}
 use Rattle.law_leaving.specs.Seen.{flag_in, leaving, message_in}
 use Rattle.law_leaving.specs.Taken.{Site}

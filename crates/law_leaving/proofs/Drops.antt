@@ -1,31 +1,31 @@
 -- What a replica that goes had, who gave it leave has.
 use Rattle.std.proofs.Common.{ℕ, ◌≡◌, false, List, [], ◌∷◌, ◌++◌, Some, option_map, refl, sym, ap, subst, ◌∙◌}
 use Rattle.std.proofs.lemmas.Bool.{false_from_ne_true}
-use Rattle.law_births.specs.pg_base.declared.id.FileId.{FileId}
-use Rattle.law_births.specs.pg_entries.declared.cell.Cell.{Cell}
-use Rattle.law_births.specs.pg_entries.declared.cell.Cell.TheVariants as cell
-use Rattle.law_births.specs.pg_event.declared.event.Event.{Event}
-use Rattle.law_births.specs.theory_flood.Server.{HoldsAll, Replica as Seen}
-use Rattle.law_births.proofs.theory_flood.Servers.{some_same}
+use Rattle.pg_run.specs.pg_base.declared.id.FileId.{FileId}
+use Rattle.pg_run.specs.pg_entries.declared.cell.Cell.{Cell}
+use Rattle.pg_run.specs.pg_entries.declared.cell.Cell.TheVariants as cell
+use Rattle.pg_run.specs.pg_event.declared.event.Event.{Event}
+use Rattle.pg_run.specs.theory_flood.Server.{HoldsAll, Replica as Seen}
+use Rattle.pg_run.proofs.theory_flood.Servers.{some_same}
 use Rattle.theory_leaving.specs.Laws.{HasAll}
 use Rattle.theory_leaving.specs.Protocol.{Word}
 use Rattle.theory_leaving.proofs.Golds.{drop_law}
-use Rattle.law_births.specs.pg_msg.declared.message.Message.{Message}
-use Rattle.law_births.specs.pg_msg.declared.message.Sent.{Sent}
-use Rattle.law_births.specs.theory_flood_pieces.Seen.{plain, seen}
-use Rattle.law_births.specs.theory_flood_pieces.UpTo.{IsUpTo}
-use Rattle.law_births.proofs.theory_flood_pieces.Grown.{holds_itself}
-use Rattle.law_births.proofs.theory_flood_pieces.Stores.{plain_at}
-use Rattle.law_births.specs.pg_register.Flag.{is_removed}
-use Rattle.law_births.specs.pg_replica.declared.replica.Replica.{Replica}
-use Rattle.law_births.specs.pg_server.declared.input.Input.TheVariants as input
-use Rattle.law_births.specs.pg_store.declared.store.Store.{Store}
-use Rattle.law_births.specs.pg_store.Seen.{removed_of}
-use Rattle.law_births.specs.pg_store.Store.{replica_at}
-use Rattle.law_births.specs.pg_run.Laws.{store_after}
-use Rattle.law_births.specs.pg_run.Leaving.{Goes}
-use Rattle.law_births.specs.pg_run.Run.{Taking, World, run}
-use Rattle.law_births.specs.pg_run.Took.{Take}
+use Rattle.pg_run.specs.pg_msg.declared.message.Message.{Message}
+use Rattle.pg_run.specs.pg_msg.declared.message.Sent.{Sent}
+use Rattle.pg_run.specs.theory_flood_pieces.Seen.{plain, seen}
+use Rattle.pg_run.specs.theory_flood_pieces.UpTo.{IsUpTo}
+use Rattle.pg_run.proofs.theory_flood_pieces.Grown.{holds_itself}
+use Rattle.pg_run.proofs.theory_flood_pieces.Stores.{plain_at}
+use Rattle.pg_run.specs.pg_register.Flag.{is_removed}
+use Rattle.pg_run.specs.pg_replica.declared.replica.Replica.{Replica}
+use Rattle.pg_run.specs.pg_server.declared.input.Input.TheVariants as input
+use Rattle.pg_run.specs.pg_store.declared.store.Store.{Store}
+use Rattle.pg_run.specs.pg_store.Seen.{removed_of}
+use Rattle.pg_run.specs.pg_store.Store.{replica_at}
+use Rattle.pg_run.specs.Laws.{store_after}
+use Rattle.pg_run.specs.Leaving.{Goes}
+use Rattle.pg_run.specs.Run.{Taking, World, run}
+use Rattle.pg_run.specs.Took.{Take}
 use Rattle.law_leaving.specs.Laws.{HasAllOf}
 use Rattle.law_leaving.proofs.Stands.{Stands}
 use Rattle.law_leaving.specs.Seen.{leaving, turn, word_of}

@@ -1,31 +1,31 @@
 -- Replicas as the edges see them: their cells, and their flags.
 use Rattle.std.proofs.Common.{ℕ, ◌≡◌, Bool, false, Option, None, Some, option_map, refl, sym, ap, subst, ◌∙◌, inl, inr, arith}
 use Rattle.std.proofs.lemmas.Bool.Decides.{eqb_tells, nat_tests}
-use Rattle.law_births.specs.pg_base.declared.id.FileId.{FileId}
-use Rattle.law_births.specs.pg_edges.declared.key.Key.{Key}
-use Rattle.law_births.specs.pg_edges.declared.key.Key.TheVariants as key
-use Rattle.law_births.specs.pg_entries.declared.cell.Cell.{Cell}
-use Rattle.law_births.specs.pg_entries.declared.cell.Cell.TheVariants as cell
-use Rattle.law_births.specs.pg_entries.declared.entry.Entry.{Entry}
-use Rattle.law_births.specs.pg_base.Version.{VersionValue}
-use Rattle.law_births.specs.theory_flood.Server.{HoldsAll, Replica as Seen}
-use Rattle.law_births.proofs.theory_flood.Servers.{some_same}
+use Rattle.pg_run.specs.pg_base.declared.id.FileId.{FileId}
+use Rattle.pg_run.specs.pg_edges.declared.key.Key.{Key}
+use Rattle.pg_run.specs.pg_edges.declared.key.Key.TheVariants as key
+use Rattle.pg_run.specs.pg_entries.declared.cell.Cell.{Cell}
+use Rattle.pg_run.specs.pg_entries.declared.cell.Cell.TheVariants as cell
+use Rattle.pg_run.specs.pg_entries.declared.entry.Entry.{Entry}
+use Rattle.pg_run.specs.pg_base.Version.{VersionValue}
+use Rattle.pg_run.specs.theory_flood.Server.{HoldsAll, Replica as Seen}
+use Rattle.pg_run.proofs.theory_flood.Servers.{some_same}
 use Rattle.theory_leaving.specs.Protocol as leaves
 use Rattle.theory_leaving.specs.Protocol.{HasLater, IsSound}
-use Rattle.law_births.specs.pg_names.Names.{cell_at as entry_at, own_or_blank}
-use Rattle.law_births.specs.theory_flood_pieces.Seen.{plain, seen}
-use Rattle.law_births.specs.theory_flood_pieces.UpTo.{IsUpTo}
-use Rattle.law_births.proofs.theory_flood_pieces.Flags.{flag_server}
-use Rattle.law_births.proofs.theory_flood_pieces.Stores.{plain_at}
-use Rattle.law_births.proofs.theory_flood_pieces.Counting.{is_sound}
-use Rattle.law_births.specs.pg_register.declared.flag.Flag.{Flag}
-use Rattle.law_births.specs.pg_register.Flag.{flag_of, is_older}
-use Rattle.law_births.specs.pg_replica.declared.replica.Replica.{Replica}
-use Rattle.law_births.specs.pg_replica.Replica.{cell_at as head_at}
-use Rattle.law_births.specs.pg_store.declared.store.Store.{Store}
-use Rattle.law_births.specs.pg_store.Cells.{entry_cell, flag_cell, is_sure, version_cell}
-use Rattle.law_births.specs.pg_store.Store.{content_of, replica_at}
-use Rattle.law_births.specs.pg_store.Together.{birth_at}
+use Rattle.pg_run.specs.pg_names.Names.{cell_at as entry_at, own_or_blank}
+use Rattle.pg_run.specs.theory_flood_pieces.Seen.{plain, seen}
+use Rattle.pg_run.specs.theory_flood_pieces.UpTo.{IsUpTo}
+use Rattle.pg_run.proofs.theory_flood_pieces.Flags.{flag_server}
+use Rattle.pg_run.proofs.theory_flood_pieces.Stores.{plain_at}
+use Rattle.pg_run.proofs.theory_flood_pieces.Counting.{is_sound}
+use Rattle.pg_run.specs.pg_register.declared.flag.Flag.{Flag}
+use Rattle.pg_run.specs.pg_register.Flag.{flag_of, is_older}
+use Rattle.pg_run.specs.pg_replica.declared.replica.Replica.{Replica}
+use Rattle.pg_run.specs.pg_replica.Replica.{cell_at as head_at}
+use Rattle.pg_run.specs.pg_store.declared.store.Store.{Store}
+use Rattle.pg_run.specs.pg_store.Cells.{entry_cell, flag_cell, is_sure, version_cell}
+use Rattle.pg_run.specs.pg_store.Store.{content_of, replica_at}
+use Rattle.pg_run.specs.pg_store.Together.{birth_at}
 use Rattle.law_leaving.specs.Seen.{flag_in, leaving}
 use Rattle.law_leaving.specs.Taken.{Site}
 

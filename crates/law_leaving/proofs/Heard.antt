@@ -4,32 +4,32 @@ use Rattle.std.proofs.Common.{ℕ, ◌≡◌, ◌≤◌, ◌⊎◌, true, false,
 use Rattle.std.specs.Prelude.{Contains}
 use Rattle.std.specs.List.{IsAmong}
 use Rattle.std.proofs.lemmas.Bool.{eq-eqb, false≢true}
-use Rattle.law_births.specs.pg_base.declared.id.FileId.{FileId}
-use Rattle.law_births.specs.pg_edges.declared.edge.Edge.{Edge}
-use Rattle.law_births.specs.pg_edges.Edges.{edge_to, is_listed, keys_if_born}
-use Rattle.law_births.specs.pg_entries.declared.cell.Cell.{Cell}
-use Rattle.law_births.specs.pg_event.declared.event.Event.{Event}
-use Rattle.law_births.specs.theory_flood.Server.{Replica as Seen, tag_on}
-use Rattle.law_births.specs.pg_intent.declared.intent.Intent.TheVariants as intent
+use Rattle.pg_run.specs.pg_base.declared.id.FileId.{FileId}
+use Rattle.pg_run.specs.pg_edges.declared.edge.Edge.{Edge}
+use Rattle.pg_run.specs.pg_edges.Edges.{edge_to, is_listed, keys_if_born}
+use Rattle.pg_run.specs.pg_entries.declared.cell.Cell.{Cell}
+use Rattle.pg_run.specs.pg_event.declared.event.Event.{Event}
+use Rattle.pg_run.specs.theory_flood.Server.{Replica as Seen, tag_on}
+use Rattle.pg_run.specs.pg_intent.declared.intent.Intent.TheVariants as intent
 use Rattle.theory_leaving.specs.Moment.{IsHeard as IsHeardOf, IsNamedBack, IsPast, at}
-use Rattle.law_births.specs.pg_msg.declared.message.Ends.{Ends}
-use Rattle.law_births.specs.pg_msg.declared.message.Message.TheVariants as message
-use Rattle.law_births.specs.pg_msg.declared.message.Sent.{Sent}
-use Rattle.law_births.specs.theory_flood_pieces.Seen.{plain, seen}
-use Rattle.law_births.specs.theory_flood_pieces.Whole.{AreEdges}
-use Rattle.law_births.proofs.theory_flood_pieces.Choices.{found_replica}
-use Rattle.law_births.proofs.theory_flood_pieces.Found.{edges_found, tag_on_edge}
-use Rattle.law_births.specs.pg_replica.declared.replica.Replica.{Replica}
-use Rattle.law_births.specs.pg_store.declared.store.Store.{Store}
-use Rattle.law_births.specs.pg_store.Seen.{removed_of}
-use Rattle.law_births.specs.pg_store.Store.{replica_at}
-use Rattle.law_births.specs.pg_store.Together.{IsOver}
-use Rattle.law_births.specs.pg_register.Flag.{is_removed}
-use Rattle.law_births.specs.pg_run.Graphs.{HasEdge}
-use Rattle.law_births.specs.pg_run.Journal.{mail}
-use Rattle.law_births.specs.pg_run.Laws.{store_after}
-use Rattle.law_births.specs.pg_run.Leaving.{ByesAreOver, HeardEdgesAreKnown, IsHeard, OwesBye}
-use Rattle.law_births.specs.pg_run.Run.{World, run}
+use Rattle.pg_run.specs.pg_msg.declared.message.Ends.{Ends}
+use Rattle.pg_run.specs.pg_msg.declared.message.Message.TheVariants as message
+use Rattle.pg_run.specs.pg_msg.declared.message.Sent.{Sent}
+use Rattle.pg_run.specs.theory_flood_pieces.Seen.{plain, seen}
+use Rattle.pg_run.specs.theory_flood_pieces.Whole.{AreEdges}
+use Rattle.pg_run.proofs.theory_flood_pieces.Choices.{found_replica}
+use Rattle.pg_run.proofs.theory_flood_pieces.Found.{edges_found, tag_on_edge}
+use Rattle.pg_run.specs.pg_replica.declared.replica.Replica.{Replica}
+use Rattle.pg_run.specs.pg_store.declared.store.Store.{Store}
+use Rattle.pg_run.specs.pg_store.Seen.{removed_of}
+use Rattle.pg_run.specs.pg_store.Store.{replica_at}
+use Rattle.pg_run.specs.pg_store.Together.{IsOver}
+use Rattle.pg_run.specs.pg_register.Flag.{is_removed}
+use Rattle.pg_run.specs.Graphs.{HasEdge}
+use Rattle.pg_run.specs.Journal.{mail}
+use Rattle.pg_run.specs.Laws.{store_after}
+use Rattle.pg_run.specs.Leaving.{ByesAreOver, HeardEdgesAreKnown, IsHeard, OwesBye}
+use Rattle.pg_run.specs.Run.{World, run}
 use Rattle.law_leaving.specs.Premises.{StandOn}
 use Rattle.law_leaving.specs.Seen.{leaving}
 use Rattle.law_leaving.specs.Taken.{site}

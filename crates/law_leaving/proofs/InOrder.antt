@@ -1,7 +1,7 @@
 -- All that other laws give of each moment.
 use Rattle.std.proofs.Common.{ℕ, List}
-use Rattle.law_births.specs.pg_base.declared.id.FileId.{FileId}
-use Rattle.law_births.specs.pg_event.declared.event.Event.{Event}
+use Rattle.pg_run.specs.pg_base.declared.id.FileId.{FileId}
+use Rattle.pg_run.specs.pg_event.declared.event.Event.{Event}
 use Rattle.theory_leaving.specs.Moment.{IsInOrder}
 use Rattle.law_leaving.specs.Answers.{AnswersAreToAccepted}
 use Rattle.law_leaving.specs.Premises.{StandOn}

@@ -1,10 +1,10 @@
 -- What is kept along every run.
 use Rattle.std.proofs.Common.{ℕ, ◌≡◌, List, [], ◌∷◌, ◌++◌, Option, None, Some, refl}
-use Rattle.law_births.specs.pg_base.declared.id.FileId.{FileId}
-use Rattle.law_births.specs.pg_event.declared.event.Event.{Event}
+use Rattle.pg_run.specs.pg_base.declared.id.FileId.{FileId}
+use Rattle.pg_run.specs.pg_event.declared.event.Event.{Event}
 use Rattle.theory_leaving.specs.Moment.{IsKept}
 use Rattle.theory_leaving.proofs.Kept.{idle_law, keep_law, start_law}
-use Rattle.law_births.specs.pg_run.Run.{Taking, run, taking_in}
+use Rattle.pg_run.specs.Run.{Taking, run, taking_in}
 use Rattle.law_leaving.proofs.Stands.{Stands}
 use Rattle.law_leaving.specs.Seen.{leaving, turn}
 use Rattle.law_leaving.proofs.Flags.{sound}

@@ -1,31 +1,31 @@
 -- Of a birth that went nobody has a later flag than the last own one: no flag of it was made since.
 use Rattle.std.proofs.Common.{ℕ, ◌≡◌, ◌≤◌, List, [], ◌∷◌, ◌++◌, append_assoc, Option, None, Some, option_map, refl, sym, ap, subst, ◌∙◌, inl, inr, ◌⊎◌}
 use Rattle.std.proofs.lemmas.List.{append-nil}
-use Rattle.law_births.specs.pg_base.declared.id.FileId.{FileId}
-use Rattle.law_births.specs.pg_content.Content.{Among}
-use Rattle.law_births.specs.pg_edges.declared.key.Key.TheVariants as key
-use Rattle.law_births.specs.pg_entries.declared.cell.Cell.{Cell}
-use Rattle.law_births.specs.pg_event.declared.event.Event.{Event}
-use Rattle.law_births.specs.theory_flood.Server.{Replica as Seen}
+use Rattle.pg_run.specs.pg_base.declared.id.FileId.{FileId}
+use Rattle.pg_run.specs.pg_content.Content.{Among}
+use Rattle.pg_run.specs.pg_edges.declared.key.Key.TheVariants as key
+use Rattle.pg_run.specs.pg_entries.declared.cell.Cell.{Cell}
+use Rattle.pg_run.specs.pg_event.declared.event.Event.{Event}
+use Rattle.pg_run.specs.theory_flood.Server.{Replica as Seen}
 use Rattle.theory_leaving.specs.Moment.{IsUpToLast}
-use Rattle.law_births.specs.pg_msg.declared.update.Update.TheVariants as update
-use Rattle.law_births.specs.pg_names.declared.attributes.Attributes.{Attributes}
-use Rattle.law_births.specs.pg_names.Names.{blank_own, or_blank, own_at, own_or_blank}
-use Rattle.law_births.proofs.theory_flood_pieces.Stores.{plain_at}
-use Rattle.law_births.specs.pg_register.declared.flag.Flag.{Flag}
-use Rattle.law_births.specs.pg_register.Flag.{flag_of}
-use Rattle.law_births.specs.pg_replica.declared.replica.Replica.{Replica}
-use Rattle.law_births.specs.pg_server.Local.{effect}
-use Rattle.law_births.specs.pg_store.declared.store.Store.{Store}
-use Rattle.law_births.specs.pg_store.Store.{replica_at}
-use Rattle.law_births.specs.pg_store.Together.{IsOver, birth_at}
-use Rattle.law_births.specs.pg_run.Known.{IsFlagOf, IsOwnFlag, WasRaised}
-use Rattle.law_births.specs.pg_run.Laws.{store_after}
-use Rattle.law_births.specs.pg_run.Leaving.{Went}
-use Rattle.law_births.specs.pg_run.Run.{Step, Taking, World, next, run, start, taking_in}
-use Rattle.law_births.proofs.pg_run.Found.{flag_found}
-use Rattle.law_births.proofs.pg_run.Frame.{IsFramed, framed, run_more}
-use Rattle.law_births.proofs.pg_run.Lists.{among_contained}
+use Rattle.pg_run.specs.pg_msg.declared.update.Update.TheVariants as update
+use Rattle.pg_run.specs.pg_names.declared.attributes.Attributes.{Attributes}
+use Rattle.pg_run.specs.pg_names.Names.{blank_own, or_blank, own_at, own_or_blank}
+use Rattle.pg_run.proofs.theory_flood_pieces.Stores.{plain_at}
+use Rattle.pg_run.specs.pg_register.declared.flag.Flag.{Flag}
+use Rattle.pg_run.specs.pg_register.Flag.{flag_of}
+use Rattle.pg_run.specs.pg_replica.declared.replica.Replica.{Replica}
+use Rattle.pg_run.specs.pg_server.Local.{effect}
+use Rattle.pg_run.specs.pg_store.declared.store.Store.{Store}
+use Rattle.pg_run.specs.pg_store.Store.{replica_at}
+use Rattle.pg_run.specs.pg_store.Together.{IsOver, birth_at}
+use Rattle.pg_run.specs.Known.{IsFlagOf, IsOwnFlag, WasRaised}
+use Rattle.pg_run.specs.Laws.{store_after}
+use Rattle.pg_run.specs.Leaving.{Went}
+use Rattle.pg_run.specs.Run.{Step, Taking, World, next, run, start, taking_in}
+use Rattle.pg_run.proofs.Found.{flag_found}
+use Rattle.pg_run.proofs.Frame.{IsFramed, framed, run_more}
+use Rattle.pg_run.proofs.Lists.{among_contained}
 use Rattle.law_leaving.specs.Gone.{WentAs}
 use Rattle.law_leaving.specs.Premises.{StandOn}
 use Rattle.law_leaving.specs.Seen.{flag_in, leaving}

@@ -2,25 +2,25 @@
 use Rattle.std.proofs.Common.{ℕ, ◌≡◌, true, not, Option, None, Some, is_some, refl, subst}
 use Rattle.std.proofs.lemmas.Bool.{and_parts, eqb-true, false≢true, not-true}
 use Rattle.std.proofs.lemmas.Option.{none-some, same_Some}
-use Rattle.law_births.specs.pg_base.declared.id.FileId.{FileId}
-use Rattle.law_births.specs.pg_base.declared.stamp.Stamp.{Stamp}
-use Rattle.law_births.specs.pg_pieces.declared.accepting.EdgeUse.TheVariants as manner
-use Rattle.law_births.specs.pg_pieces.Accepting.{is_current, meets}
-use Rattle.law_births.specs.pg_store.Links.{knows_later}
-use Rattle.law_births.specs.pg_pieces.Parting.{stays_for}
-use Rattle.law_births.specs.pg_graph.Leaving.{goes_now, may_leave, without_leave}
-use Rattle.law_births.proofs.pg_graph.LeaveOk.{MayGo, answered_is, stays_not}
-use Rattle.law_births.specs.pg_msg.declared.message.Ends.{Ends}
-use Rattle.law_births.specs.pg_msg.declared.message.Message.{Message}
-use Rattle.law_births.specs.pg_msg.declared.message.Message.TheVariants as message
-use Rattle.law_births.specs.pg_msg.Work.{new_work}
-use Rattle.law_births.proofs.theory_flood_pieces.Choices.{decided}
-use Rattle.law_births.specs.pg_replica.declared.replica.Replica.{Replica}
-use Rattle.law_births.specs.pg_replica.Replicas.{is_of_birth}
-use Rattle.law_births.specs.pg_store.declared.store.Store.{Store}
-use Rattle.law_births.specs.pg_store.Births.{has_birth}
-use Rattle.law_births.specs.pg_store.Store.{replica_at}
-use Rattle.law_births.specs.pg_run.Carried.{gone_by}
+use Rattle.pg_run.specs.pg_base.declared.id.FileId.{FileId}
+use Rattle.pg_run.specs.pg_base.declared.stamp.Stamp.{Stamp}
+use Rattle.pg_run.specs.pg_pieces.declared.accepting.EdgeUse.TheVariants as manner
+use Rattle.pg_run.specs.pg_pieces.Accepting.{is_current, meets}
+use Rattle.pg_run.specs.pg_store.Links.{knows_later}
+use Rattle.pg_run.specs.pg_pieces.Parting.{stays_for}
+use Rattle.pg_run.specs.pg_graph.Leaving.{goes_now, may_leave, without_leave}
+use Rattle.pg_run.proofs.pg_graph.LeaveOk.{MayGo, answered_is, stays_not}
+use Rattle.pg_run.specs.pg_msg.declared.message.Ends.{Ends}
+use Rattle.pg_run.specs.pg_msg.declared.message.Message.{Message}
+use Rattle.pg_run.specs.pg_msg.declared.message.Message.TheVariants as message
+use Rattle.pg_run.specs.pg_msg.Work.{new_work}
+use Rattle.pg_run.proofs.theory_flood_pieces.Choices.{decided}
+use Rattle.pg_run.specs.pg_replica.declared.replica.Replica.{Replica}
+use Rattle.pg_run.specs.pg_replica.Replicas.{is_of_birth}
+use Rattle.pg_run.specs.pg_store.declared.store.Store.{Store}
+use Rattle.pg_run.specs.pg_store.Births.{has_birth}
+use Rattle.pg_run.specs.pg_store.Store.{replica_at}
+use Rattle.pg_run.specs.Carried.{gone_by}
 
 -- a replica of a birth is there
 pub held_of : (o : Option Replica) (birth : ℕ) → is_of_birth o birth ≡ true → (x : Replica) × (o ≡ Some x) × (x.birth ≡ birth)

@@ -2,27 +2,27 @@
 use Rattle.std.proofs.Common.{ℕ, ◌≡◌, ◌==◌, Bool, true, false, cond, not, List, Option, None, Some, option_map, refl, sym, ap, subst, ◌∙◌, inl, inr}
 use Rattle.std.proofs.lemmas.Bool.{and_parts, false≢true}
 use Rattle.std.proofs.lemmas.Option.{same_Some}
-use Rattle.law_births.specs.pg_base.declared.id.FileId.{FileId}
-use Rattle.law_births.specs.pg_edges.Edges.{is_listed}
-use Rattle.law_births.specs.pg_msg.declared.message.Ends.{Ends}
-use Rattle.law_births.specs.pg_msg.declared.message.Message.{Message}
-use Rattle.law_births.specs.pg_msg.declared.message.Packet.{Packet}
-use Rattle.law_births.specs.pg_msg.declared.work.Work.{Work}
-use Rattle.law_births.specs.pg_msg.Work.{new_work}
-use Rattle.law_births.specs.pg_pieces.declared.accepting.EdgeUse.TheVariants as manner
-use Rattle.law_births.specs.pg_pieces.Accepting.{accept, is_accepted, is_current, meets}
-use Rattle.law_births.specs.pg_pieces.Done.{Done, idle, link_of}
-use Rattle.law_births.specs.pg_replica.declared.replica.Replica.{Replica}
-use Rattle.law_births.specs.pg_replica.Replica.{has_edge}
-use Rattle.law_births.specs.pg_replica.Replicas.{or_nothing}
-use Rattle.law_births.proofs.theory_flood_pieces.Choices.{chosen}
-use Rattle.law_births.specs.pg_server.declared.input.Input.TheVariants as input
-use Rattle.law_births.specs.pg_server.Local.{Effect, closed, effect, finished, first_effect, is_heard, receive, settled, intended}
-use Rattle.law_births.specs.pg_store.declared.store.Store.{Store}
-use Rattle.law_births.specs.pg_store.Births.{has_birth}
-use Rattle.law_births.specs.pg_store.Links.{knows_later}
-use Rattle.law_births.specs.pg_store.Store.{replica_at}
-use Rattle.law_births.proofs.pg_run.Transfers.{KeepsTransfers, delta_keeps, piece_keeps}
+use Rattle.pg_run.specs.pg_base.declared.id.FileId.{FileId}
+use Rattle.pg_run.specs.pg_edges.Edges.{is_listed}
+use Rattle.pg_run.specs.pg_msg.declared.message.Ends.{Ends}
+use Rattle.pg_run.specs.pg_msg.declared.message.Message.{Message}
+use Rattle.pg_run.specs.pg_msg.declared.message.Packet.{Packet}
+use Rattle.pg_run.specs.pg_msg.declared.work.Work.{Work}
+use Rattle.pg_run.specs.pg_msg.Work.{new_work}
+use Rattle.pg_run.specs.pg_pieces.declared.accepting.EdgeUse.TheVariants as manner
+use Rattle.pg_run.specs.pg_pieces.Accepting.{accept, is_accepted, is_current, meets}
+use Rattle.pg_run.specs.pg_pieces.Done.{Done, idle, link_of}
+use Rattle.pg_run.specs.pg_replica.declared.replica.Replica.{Replica}
+use Rattle.pg_run.specs.pg_replica.Replica.{has_edge}
+use Rattle.pg_run.specs.pg_replica.Replicas.{or_nothing}
+use Rattle.pg_run.proofs.theory_flood_pieces.Choices.{chosen}
+use Rattle.pg_run.specs.pg_server.declared.input.Input.TheVariants as input
+use Rattle.pg_run.specs.pg_server.Local.{Effect, closed, effect, finished, first_effect, is_heard, receive, settled, intended}
+use Rattle.pg_run.specs.pg_store.declared.store.Store.{Store}
+use Rattle.pg_run.specs.pg_store.Births.{has_birth}
+use Rattle.pg_run.specs.pg_store.Links.{knows_later}
+use Rattle.pg_run.specs.pg_store.Store.{replica_at}
+use Rattle.pg_run.proofs.Transfers.{KeepsTransfers, delta_keeps, piece_keeps}
 use Rattle.law_births.proofs.Effects.{Lists, intended_shapes, lists_on}
 use Rattle.law_births.proofs.Ends.{born_listed, born_to, ends, listed_born}
 use Rattle.law_births.proofs.Pieces.{Shape, settle_stays, shape, staying_steps}

@@ -1,34 +1,34 @@
 -- From one moment of a run to the next.
 use Rattle.std.proofs.Common.{ℕ, ◌≡◌, List, [], ◌∷◌, ◌++◌, Option, None, Some, option_map, refl, sym, ap, subst, ◌∙◌, inl, inr, ◌⊎◌}
 use Rattle.std.specs.Prelude.{Contains}
-use Rattle.law_births.specs.pg_base.declared.id.FileId.{FileId}
-use Rattle.law_births.specs.pg_edges.declared.key.Key.{Key}
-use Rattle.law_births.specs.pg_entries.declared.cell.Cell.{Cell}
-use Rattle.law_births.specs.pg_event.declared.entry.VoidCause.{VoidCause}
-use Rattle.law_births.specs.pg_event.declared.event.Event.{Event}
-use Rattle.law_births.specs.theory_flood.World.{after}
-use Rattle.law_births.specs.theory_flood.Server.{Holds, HoldsAll, Replica as Seen}
-use Rattle.law_births.proofs.theory_flood.Servers.{some_same}
+use Rattle.pg_run.specs.pg_base.declared.id.FileId.{FileId}
+use Rattle.pg_run.specs.pg_edges.declared.key.Key.{Key}
+use Rattle.pg_run.specs.pg_entries.declared.cell.Cell.{Cell}
+use Rattle.pg_run.specs.pg_event.declared.entry.VoidCause.{VoidCause}
+use Rattle.pg_run.specs.pg_event.declared.event.Event.{Event}
+use Rattle.pg_run.specs.theory_flood.World.{after}
+use Rattle.pg_run.specs.theory_flood.Server.{Holds, HoldsAll, Replica as Seen}
+use Rattle.pg_run.proofs.theory_flood.Servers.{some_same}
 use Rattle.theory_leaving.specs.Laws.{Idles}
 use Rattle.theory_leaving.specs.Rule.{Follows}
-use Rattle.law_births.specs.pg_msg.declared.message.Sent.{Sent}
-use Rattle.law_births.specs.theory_flood_pieces.Seen.{plain, seen}
-use Rattle.law_births.specs.theory_flood_pieces.UpTo.{IsUpTo}
-use Rattle.law_births.proofs.theory_flood_pieces.Events.{holds_plain}
-use Rattle.law_births.proofs.theory_flood_pieces.Stores.{plain_at}
-use Rattle.law_births.specs.pg_replica.declared.replica.Replica.{Replica}
-use Rattle.law_births.specs.pg_server.declared.input.Input.{Input}
-use Rattle.law_births.specs.pg_server.declared.input.Input.TheVariants as input
-use Rattle.law_births.specs.pg_server.Local.{effect}
-use Rattle.law_births.specs.pg_store.declared.store.Store.{Store}
-use Rattle.law_births.specs.pg_store.Cells.{cell_at}
-use Rattle.law_births.specs.pg_store.Store.{replica_at}
-use Rattle.law_births.specs.pg_run.Journal.{mail}
-use Rattle.law_births.specs.pg_run.Laws.{store_after}
-use Rattle.law_births.specs.pg_run.Leaving.{Goes}
-use Rattle.law_births.specs.pg_run.Run.{Taking, World, effect_step, idle_step, next, run, start, taking_in, took_after, world_after}
-use Rattle.law_births.specs.pg_run.Took.{Take}
-use Rattle.law_births.proofs.pg_run.Frame.{Acts, HasCome, IsFramed, acts_is, framed, next_is, other_after, run_more}
+use Rattle.pg_run.specs.pg_msg.declared.message.Sent.{Sent}
+use Rattle.pg_run.specs.theory_flood_pieces.Seen.{plain, seen}
+use Rattle.pg_run.specs.theory_flood_pieces.UpTo.{IsUpTo}
+use Rattle.pg_run.proofs.theory_flood_pieces.Events.{holds_plain}
+use Rattle.pg_run.proofs.theory_flood_pieces.Stores.{plain_at}
+use Rattle.pg_run.specs.pg_replica.declared.replica.Replica.{Replica}
+use Rattle.pg_run.specs.pg_server.declared.input.Input.{Input}
+use Rattle.pg_run.specs.pg_server.declared.input.Input.TheVariants as input
+use Rattle.pg_run.specs.pg_server.Local.{effect}
+use Rattle.pg_run.specs.pg_store.declared.store.Store.{Store}
+use Rattle.pg_run.specs.pg_store.Cells.{cell_at}
+use Rattle.pg_run.specs.pg_store.Store.{replica_at}
+use Rattle.pg_run.specs.Journal.{mail}
+use Rattle.pg_run.specs.Laws.{store_after}
+use Rattle.pg_run.specs.Leaving.{Goes}
+use Rattle.pg_run.specs.Run.{Taking, World, effect_step, idle_step, next, run, start, taking_in, took_after, world_after}
+use Rattle.pg_run.specs.Took.{Take}
+use Rattle.pg_run.proofs.Frame.{Acts, HasCome, IsFramed, acts_is, framed, next_is, other_after, run_more}
 use Rattle.law_leaving.specs.Gone.{WentAs}
 use Rattle.law_leaving.specs.Seen.{leaving, message_in, turn}
 use Rattle.law_leaving.specs.Taken.{Site, site}

@@ -2,36 +2,36 @@
 use Rattle.std.proofs.Common.{ℕ, ◌≡◌, ◌==◌, ◌≤◌, true, List, Option, None, Some, option_map, refl, sym, ap, subst, ◌∙◌, inl}
 use Rattle.std.specs.Prelude.{Contains}
 use Rattle.std.proofs.lemmas.Bool.{and_parts, eqb-true, false≢true}
-use Rattle.law_births.specs.pg_base.declared.id.FileId.{FileId}
-use Rattle.law_births.specs.pg_edges.declared.key.Key.{Key}
-use Rattle.law_births.specs.pg_edges.declared.key.Key.TheVariants as key
-use Rattle.law_births.specs.pg_edges.Edges.{is_listed}
-use Rattle.law_births.specs.pg_entries.declared.cell.Cell.{Cell}
-use Rattle.law_births.specs.pg_entries.declared.cell.Cell.TheVariants as cell
-use Rattle.law_births.specs.pg_event.declared.event.Event.{Event}
-use Rattle.law_births.specs.theory_flood.Server.{Replica as Seen}
-use Rattle.law_births.specs.pg_intent.declared.intent.Intent.TheVariants as intent
-use Rattle.law_births.proofs.pg_intent.Stands.{intent_found}
+use Rattle.pg_run.specs.pg_base.declared.id.FileId.{FileId}
+use Rattle.pg_run.specs.pg_edges.declared.key.Key.{Key}
+use Rattle.pg_run.specs.pg_edges.declared.key.Key.TheVariants as key
+use Rattle.pg_run.specs.pg_edges.Edges.{is_listed}
+use Rattle.pg_run.specs.pg_entries.declared.cell.Cell.{Cell}
+use Rattle.pg_run.specs.pg_entries.declared.cell.Cell.TheVariants as cell
+use Rattle.pg_run.specs.pg_event.declared.event.Event.{Event}
+use Rattle.pg_run.specs.theory_flood.Server.{Replica as Seen}
+use Rattle.pg_run.specs.pg_intent.declared.intent.Intent.TheVariants as intent
+use Rattle.pg_run.proofs.pg_intent.Stands.{intent_found}
 use Rattle.theory_leaving.specs.Moment.{IsSaid, IsWanted}
 use Rattle.theory_leaving.specs.Protocol.Word.{Gone}
-use Rattle.law_births.specs.pg_names.Names.{own_or_blank}
-use Rattle.law_births.specs.theory_flood_pieces.Seen.{seen}
-use Rattle.law_births.specs.theory_flood_pieces.Whole.{AreEdges, IsEdge, IsWhole}
-use Rattle.law_births.proofs.theory_flood_pieces.Choices.{found_replica}
-use Rattle.law_births.specs.pg_register.declared.flag.Flag.{Flag}
-use Rattle.law_births.specs.pg_register.Flag.{flag_of, is_raised, is_raised_with}
-use Rattle.law_births.specs.pg_replica.declared.replica.Replica.{Replica}
-use Rattle.law_births.specs.pg_replica.Replicas.{lists_peer}
-use Rattle.law_births.specs.pg_store.declared.store.Store.{Store}
-use Rattle.law_births.specs.pg_store.Links.{is_linked}
-use Rattle.law_births.specs.pg_store.Store.{replica_at}
-use Rattle.law_births.specs.pg_store.Together.{birth_at}
-use Rattle.law_births.specs.pg_pieces.Golds.{flags_of}
-use Rattle.law_births.specs.pg_run.Births.{IsBirthAt, WasGivenOut}
-use Rattle.law_births.specs.pg_run.Journal.{mail}
-use Rattle.law_births.specs.pg_run.Laws.{store_after}
-use Rattle.law_births.specs.pg_run.Run.{World, run}
-use Rattle.law_births.proofs.pg_run.Found.{listed_edge}
+use Rattle.pg_run.specs.pg_names.Names.{own_or_blank}
+use Rattle.pg_run.specs.theory_flood_pieces.Seen.{seen}
+use Rattle.pg_run.specs.theory_flood_pieces.Whole.{AreEdges, IsEdge, IsWhole}
+use Rattle.pg_run.proofs.theory_flood_pieces.Choices.{found_replica}
+use Rattle.pg_run.specs.pg_register.declared.flag.Flag.{Flag}
+use Rattle.pg_run.specs.pg_register.Flag.{flag_of, is_raised, is_raised_with}
+use Rattle.pg_run.specs.pg_replica.declared.replica.Replica.{Replica}
+use Rattle.pg_run.specs.pg_replica.Replicas.{lists_peer}
+use Rattle.pg_run.specs.pg_store.declared.store.Store.{Store}
+use Rattle.pg_run.specs.pg_store.Links.{is_linked}
+use Rattle.pg_run.specs.pg_store.Store.{replica_at}
+use Rattle.pg_run.specs.pg_store.Together.{birth_at}
+use Rattle.pg_run.specs.pg_pieces.Golds.{flags_of}
+use Rattle.pg_run.specs.Births.{IsBirthAt, WasGivenOut}
+use Rattle.pg_run.specs.Journal.{mail}
+use Rattle.pg_run.specs.Laws.{store_after}
+use Rattle.pg_run.specs.Run.{World, run}
+use Rattle.pg_run.proofs.Found.{listed_edge}
 use Rattle.law_leaving.specs.Gone.{WentAs}
 use Rattle.law_leaving.specs.Premises.{StandOn}
 use Rattle.law_leaving.specs.Seen.{leaving}

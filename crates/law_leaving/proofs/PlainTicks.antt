@@ -4,34 +4,34 @@ use Rattle.std.specs.Prelude.{Contains, nat_lt}
 use Rattle.std.specs.List.{flat_map}
 use Rattle.std.proofs.lemmas.List.Elements.{All-append, All-contains_itself, All-nil, All-weaker}
 use Rattle.std.proofs.lemmas.Option.{none-some, same_Some}
-use Rattle.law_births.specs.pg_base.declared.id.FileId.{FileId}
-use Rattle.law_births.specs.pg_edges.declared.edge.Edge.{Edge}
-use Rattle.law_births.specs.pg_entries.declared.cell.Cell.{Cell}
-use Rattle.law_births.specs.pg_entries.declared.cell.Cell.TheVariants as cell
-use Rattle.law_births.specs.pg_entries.declared.entry.Entry.{Entry}
-use Rattle.law_births.specs.pg_intent.declared.intent.Intent.{Intent}
-use Rattle.law_births.specs.pg_intent.declared.intent.Intent.TheVariants as intent
-use Rattle.law_births.specs.pg_intent.Intent.{target_of}
-use Rattle.law_births.specs.pg_msg.declared.message.Ends.{Ends}
-use Rattle.law_births.specs.pg_msg.declared.message.Message.{Message}
-use Rattle.law_births.specs.pg_msg.declared.message.Message.TheVariants as message
-use Rattle.law_births.specs.pg_msg.declared.message.Sent.{Sent}
-use Rattle.law_births.specs.pg_msg.Work.{new_work}
-use Rattle.law_births.specs.pg_names.declared.attributes.Attributes.{Attributes}
-use Rattle.law_births.specs.pg_names.Names.{cell_at, own_at}
-use Rattle.law_births.specs.pg_replica.declared.replica.Replica.{Replica}
-use Rattle.law_births.specs.pg_store.declared.store.Store.{Store}
-use Rattle.law_births.specs.pg_store.Births.{birth_of}
-use Rattle.law_births.specs.pg_pieces.Posting.{sent_to}
-use Rattle.law_births.specs.pg_cells.Sending.{Wanted, cell_to, cells_where, is_any, told_as}
-use Rattle.law_births.specs.pg_cells.Ticks.{tick}
-use Rattle.law_births.specs.pg_intentions.Requests.{ask_all, asks, bye_message, confirm_message, leave_message, request}
-use Rattle.law_births.specs.pg_server.Local.{sent_again}
-use Rattle.law_births.proofs.theory_flood_pieces.Choices.{chosen}
-use Rattle.law_births.proofs.pg_run.Bags.{All-every}
-use Rattle.law_births.proofs.pg_run.Event.{AskHas, CellHas, asks_have, cells_have}
-use Rattle.law_births.proofs.pg_run.Sends as sends
-use Rattle.law_births.proofs.pg_run.Sends.{Fine, tick_walk_fine}
+use Rattle.pg_run.specs.pg_base.declared.id.FileId.{FileId}
+use Rattle.pg_run.specs.pg_edges.declared.edge.Edge.{Edge}
+use Rattle.pg_run.specs.pg_entries.declared.cell.Cell.{Cell}
+use Rattle.pg_run.specs.pg_entries.declared.cell.Cell.TheVariants as cell
+use Rattle.pg_run.specs.pg_entries.declared.entry.Entry.{Entry}
+use Rattle.pg_run.specs.pg_intent.declared.intent.Intent.{Intent}
+use Rattle.pg_run.specs.pg_intent.declared.intent.Intent.TheVariants as intent
+use Rattle.pg_run.specs.pg_intent.Intent.{target_of}
+use Rattle.pg_run.specs.pg_msg.declared.message.Ends.{Ends}
+use Rattle.pg_run.specs.pg_msg.declared.message.Message.{Message}
+use Rattle.pg_run.specs.pg_msg.declared.message.Message.TheVariants as message
+use Rattle.pg_run.specs.pg_msg.declared.message.Sent.{Sent}
+use Rattle.pg_run.specs.pg_msg.Work.{new_work}
+use Rattle.pg_run.specs.pg_names.declared.attributes.Attributes.{Attributes}
+use Rattle.pg_run.specs.pg_names.Names.{cell_at, own_at}
+use Rattle.pg_run.specs.pg_replica.declared.replica.Replica.{Replica}
+use Rattle.pg_run.specs.pg_store.declared.store.Store.{Store}
+use Rattle.pg_run.specs.pg_store.Births.{birth_of}
+use Rattle.pg_run.specs.pg_pieces.Posting.{sent_to}
+use Rattle.pg_run.specs.pg_cells.Sending.{Wanted, cell_to, cells_where, is_any, told_as}
+use Rattle.pg_run.specs.pg_cells.Ticks.{tick}
+use Rattle.pg_run.specs.pg_intentions.Requests.{ask_all, asks, bye_message, confirm_message, leave_message, request}
+use Rattle.pg_run.specs.pg_server.Local.{sent_again}
+use Rattle.pg_run.proofs.theory_flood_pieces.Choices.{chosen}
+use Rattle.pg_run.proofs.Bags.{All-every}
+use Rattle.pg_run.proofs.Event.{AskHas, CellHas, asks_have, cells_have}
+use Rattle.pg_run.proofs.Sends as sends
+use Rattle.pg_run.proofs.Sends.{Fine, tick_walk_fine}
 
 -- no answer to a cell, no Bye and no answer to one
 abbrev pub is_plain : Message → Bool

@@ -2,21 +2,21 @@
 use mathlib.Core.Path.{fun_ext}
 use Rattle.std.proofs.Common.{ℕ, ◌≡◌, ◌==◌, Bool, true, false, cond, List, ◌++◌, Some, refl, subst}
 use Rattle.std.proofs.lemmas.List.Elements.{All-append, All-contains}
-use Rattle.law_births.specs.pg_event.declared.event.Event.{Event}
-use Rattle.law_births.specs.theory_flood.Protocol.{KeepsEdges, Promised}
-use Rattle.law_births.specs.theory_flood.World.{after}
-use Rattle.law_births.proofs.theory_flood.Late.{late}
-use Rattle.law_births.specs.pg_msg.declared.message.Sent.{Sent}
-use Rattle.law_births.specs.theory_flood_pieces.Seen.{says}
-use Rattle.law_births.specs.pg_server.declared.input.Input.{Input}
-use Rattle.law_births.specs.pg_server.declared.input.Input.TheVariants as input
-use Rattle.law_births.specs.pg_server.Local.{effect}
-use Rattle.law_births.specs.pg_store.declared.store.Store.{Store}
-use Rattle.law_births.specs.pg_run.Journal.{mail}
-use Rattle.law_births.specs.pg_run.Ruled.{heard_in}
-use Rattle.law_births.specs.pg_run.Run.{Taking, World, effect_step, run, taking_in, took_after, world_after}
-use Rattle.law_births.specs.pg_run.Took.{Take}
-use Rattle.law_births.proofs.pg_run.Frame.{Acts, HasCome, all_parts, holds_in_runs, no_server_comes}
+use Rattle.pg_run.specs.pg_event.declared.event.Event.{Event}
+use Rattle.pg_run.specs.theory_flood.Protocol.{KeepsEdges, Promised}
+use Rattle.pg_run.specs.theory_flood.World.{after}
+use Rattle.pg_run.proofs.theory_flood.Late.{late}
+use Rattle.pg_run.specs.pg_msg.declared.message.Sent.{Sent}
+use Rattle.pg_run.specs.theory_flood_pieces.Seen.{says}
+use Rattle.pg_run.specs.pg_server.declared.input.Input.{Input}
+use Rattle.pg_run.specs.pg_server.declared.input.Input.TheVariants as input
+use Rattle.pg_run.specs.pg_server.Local.{effect}
+use Rattle.pg_run.specs.pg_store.declared.store.Store.{Store}
+use Rattle.pg_run.specs.Journal.{mail}
+use Rattle.pg_run.specs.Ruled.{heard_in}
+use Rattle.pg_run.specs.Run.{Taking, World, effect_step, run, taking_in, took_after, world_after}
+use Rattle.pg_run.specs.Took.{Take}
+use Rattle.pg_run.proofs.Frame.{Acts, HasCome, all_parts, holds_in_runs, no_server_comes}
 use Rattle.law_leaving.specs.Answers.{AnswersAreToAccepted}
 use Rattle.law_leaving.specs.Premises.{StandOn}
 use Rattle.law_leaving.specs.Taken.{Site, site, taking}

@@ -3,42 +3,42 @@ use Rattle.std.proofs.Common.{ℕ, ◌≡◌, Bool, true, false, cond, List, [],
 use Rattle.std.specs.Prelude.{Contains}
 use Rattle.std.proofs.lemmas.Option.{none-some}
 use Rattle.std.proofs.lemmas.Bool.{false_from_ne_true}
-use Rattle.law_births.specs.pg_base.declared.id.FileId.{FileId}
-use Rattle.law_births.specs.pg_pieces.Done.{idle}
-use Rattle.law_births.specs.pg_edges.Edges.{is_listed}
-use Rattle.law_births.specs.pg_entries.declared.cell.Cell.{Cell}
-use Rattle.law_births.specs.pg_event.declared.event.Event.{Event}
-use Rattle.law_births.specs.theory_flood.Noting.{SaidIn, noting}
-use Rattle.law_births.specs.theory_flood.Promises.{Saying}
-use Rattle.law_births.specs.theory_flood.Protocol.{Protocol}
-use Rattle.law_births.specs.theory_flood.Server.{Replica as Seen, Slot}
-use Rattle.law_births.specs.theory_flood.World.{after}
-use Rattle.law_births.proofs.theory_flood.Flood.{after_itself}
-use Rattle.law_births.proofs.theory_flood.Steps as steps
-use Rattle.law_births.specs.pg_intent.declared.intent.Intent.TheVariants as intent
+use Rattle.pg_run.specs.pg_base.declared.id.FileId.{FileId}
+use Rattle.pg_run.specs.pg_pieces.Done.{idle}
+use Rattle.pg_run.specs.pg_edges.Edges.{is_listed}
+use Rattle.pg_run.specs.pg_entries.declared.cell.Cell.{Cell}
+use Rattle.pg_run.specs.pg_event.declared.event.Event.{Event}
+use Rattle.pg_run.specs.theory_flood.Noting.{SaidIn, noting}
+use Rattle.pg_run.specs.theory_flood.Promises.{Saying}
+use Rattle.pg_run.specs.theory_flood.Protocol.{Protocol}
+use Rattle.pg_run.specs.theory_flood.Server.{Replica as Seen, Slot}
+use Rattle.pg_run.specs.theory_flood.World.{after}
+use Rattle.pg_run.proofs.theory_flood.Flood.{after_itself}
+use Rattle.pg_run.proofs.theory_flood.Steps as steps
+use Rattle.pg_run.specs.pg_intent.declared.intent.Intent.TheVariants as intent
 use Rattle.theory_leaving.specs.Moment.{IsKept, IsPast}
 use Rattle.theory_leaving.specs.Protocol.{Word}
 use Rattle.theory_leaving.specs.Protocol.Word.{Bye, ByeOk, Gone}
 use Rattle.theory_leaving.specs.Rule.{Hears as HearsWord, MayDrop, MayGo, Turn, heard_as}
-use Rattle.law_births.specs.pg_msg.declared.message.Packet.{Packet}
-use Rattle.law_births.specs.pg_msg.declared.message.Sent.{Sent}
-use Rattle.law_births.specs.pg_msg.Work.{new_work}
-use Rattle.law_births.specs.theory_flood_pieces.Seen.{seen}
-use Rattle.law_births.specs.pg_register.Flag.{is_removed}
-use Rattle.law_births.specs.pg_server.declared.input.Input.{Input}
-use Rattle.law_births.specs.pg_server.declared.input.Input.TheVariants as input
-use Rattle.law_births.specs.pg_server.Local.{closed, effect, finished, first_effect, receive, reply_to, takes_effect}
-use Rattle.law_births.specs.pg_store.declared.store.Store.{Store}
-use Rattle.law_births.specs.pg_store.Seen.{removed_of}
-use Rattle.law_births.specs.pg_store.Store.{replica_at}
-use Rattle.law_births.specs.pg_store.Together.{birth_at}
-use Rattle.law_births.specs.pg_run.Carried.{gone_in}
-use Rattle.law_births.specs.pg_run.Journal.{mail}
-use Rattle.law_births.specs.pg_run.Going.{ByesAreAnswered, ByesAreOwed, Hears, SaysItWent}
-use Rattle.law_births.specs.pg_run.Laws.{TakesIn, store_after}
-use Rattle.law_births.specs.pg_run.Leaving.{Goes}
-use Rattle.law_births.specs.pg_run.Ruled.{heard_in}
-use Rattle.law_births.specs.pg_run.Run.{Taking, World, run, taking_in, took_after}
+use Rattle.pg_run.specs.pg_msg.declared.message.Packet.{Packet}
+use Rattle.pg_run.specs.pg_msg.declared.message.Sent.{Sent}
+use Rattle.pg_run.specs.pg_msg.Work.{new_work}
+use Rattle.pg_run.specs.theory_flood_pieces.Seen.{seen}
+use Rattle.pg_run.specs.pg_register.Flag.{is_removed}
+use Rattle.pg_run.specs.pg_server.declared.input.Input.{Input}
+use Rattle.pg_run.specs.pg_server.declared.input.Input.TheVariants as input
+use Rattle.pg_run.specs.pg_server.Local.{closed, effect, finished, first_effect, receive, reply_to, takes_effect}
+use Rattle.pg_run.specs.pg_store.declared.store.Store.{Store}
+use Rattle.pg_run.specs.pg_store.Seen.{removed_of}
+use Rattle.pg_run.specs.pg_store.Store.{replica_at}
+use Rattle.pg_run.specs.pg_store.Together.{birth_at}
+use Rattle.pg_run.specs.Carried.{gone_in}
+use Rattle.pg_run.specs.Journal.{mail}
+use Rattle.pg_run.specs.Going.{ByesAreAnswered, ByesAreOwed, Hears, SaysItWent}
+use Rattle.pg_run.specs.Laws.{TakesIn, store_after}
+use Rattle.pg_run.specs.Leaving.{Goes}
+use Rattle.pg_run.specs.Ruled.{heard_in}
+use Rattle.pg_run.specs.Run.{Taking, World, run, taking_in, took_after}
 use Rattle.law_leaving.specs.Gone.{WentAs}
 use Rattle.law_leaving.specs.Answers.{AnswersAreToAccepted}
 use Rattle.law_leaving.specs.Premises.{StandOn}

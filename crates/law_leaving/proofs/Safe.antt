@@ -4,49 +4,49 @@ use Rattle.std.specs.Prelude.{Contains, nat_le}
 use Rattle.std.proofs.lemmas.Bool.{and_parts, eq-eqb, false≢true, leb-true, false_from_ne_true}
 use Rattle.std.proofs.lemmas.Bool.Decides.{nat_tests}
 use Rattle.std.proofs.lemmas.Option.{none-some, same_Some}
-use Rattle.law_births.specs.pg_base.declared.id.FileId.{FileId}
-use Rattle.law_births.specs.pg_base.declared.stamp.Stamp.{Stamp}
-use Rattle.law_births.specs.pg_base.Version.{VersionValue}
-use Rattle.law_births.specs.pg_content.Content.{Among, ContentValue}
-use Rattle.law_births.specs.pg_content.Covering.{AreCoveredBy, IsUpToHead}
-use Rattle.law_births.specs.pg_content.History.{Made}
-use Rattle.law_births.proofs.pg_content.Covering.{covered_sets}
-use Rattle.law_births.specs.pg_edges.declared.key.Key.{Key}
-use Rattle.law_births.specs.pg_edges.declared.key.Key.TheVariants as key
-use Rattle.law_births.specs.pg_entries.declared.cell.Cell.{Cell}
-use Rattle.law_births.specs.pg_entries.declared.cell.Cell.TheVariants as cell
-use Rattle.law_births.specs.pg_entries.declared.entry.Entry.{Entry}
-use Rattle.law_births.specs.pg_event.declared.event.Event.{Event}
-use Rattle.law_births.specs.pg_house.Passing.{is_update}
-use Rattle.law_births.specs.pg_msg.declared.message.Message.{Message}
-use Rattle.law_births.specs.pg_msg.declared.message.Message.TheVariants as message
-use Rattle.law_births.specs.pg_names.declared.attributes.Attributes.{Attributes}
-use Rattle.law_births.specs.pg_names.Names.{cell_at as entry_at, own_or_blank}
-use Rattle.law_births.specs.pg_register.declared.flag.Flag.{Flag}
-use Rattle.law_births.specs.pg_register.declared.place.Place.{Place}
-use Rattle.law_births.specs.pg_register.Flag.{IsByServer, flag_of, is_removed}
-use Rattle.law_births.proofs.pg_register.ByServer.{Above, IsByServer-head, IsByServer-join_flags, IsByServer-nil, IsByServer-tail, below, first}
-use Rattle.law_births.specs.pg_replica.declared.replica.Replica.{Replica}
-use Rattle.law_births.specs.pg_replica.Replica.{cell_at as version_at}
-use Rattle.law_births.specs.pg_replica.Replicas.{or_nothing}
-use Rattle.law_births.proofs.pg_replica.Growth.{cell_head, head_at}
-use Rattle.law_births.specs.pg_server.declared.input.Input.TheVariants as input
-use Rattle.law_births.specs.pg_store.declared.store.Store.{Store}
-use Rattle.law_births.specs.theory_flood_pieces.UpTo.{IsUpTo}
-use Rattle.law_births.specs.pg_store.Cells.{cell_at, entry_cell, flag_cell, is_sure, version_cell}
-use Rattle.law_births.specs.pg_store.Seen.{removed_of, server_of}
-use Rattle.law_births.specs.pg_store.Servers.{is_live_other}
-use Rattle.law_births.specs.pg_store.Store.{content_of, replica_at}
-use Rattle.law_births.specs.pg_run.Histories.{content_after, taken_after, versions_after}
-use Rattle.law_births.specs.pg_run.Laws.{KnowsWhatItTook, store_after}
-use Rattle.law_births.specs.pg_run.Leaving.{DropsAreSafe, GiversHaveEachCell, Goes, HasEachCell, TookAllOf, TookTheState}
-use Rattle.law_births.specs.pg_run.Passed.{has_cell}
-use Rattle.law_births.specs.pg_run.Run.{World, run}
-use Rattle.law_births.specs.pg_run.State.{own_state, versions_taken}
-use Rattle.law_births.specs.pg_run.Took.{Take, flags_in, flags_taken, place_in, places_taken}
-use Rattle.law_births.specs.pg_run.Took.Taker.{InDir, Itself}
-use Rattle.law_births.proofs.pg_run.Frame.{acts_is}
-use Rattle.law_births.proofs.pg_run.Lists.{contained_among}
+use Rattle.pg_run.specs.pg_base.declared.id.FileId.{FileId}
+use Rattle.pg_run.specs.pg_base.declared.stamp.Stamp.{Stamp}
+use Rattle.pg_run.specs.pg_base.Version.{VersionValue}
+use Rattle.pg_run.specs.pg_content.Content.{Among, ContentValue}
+use Rattle.pg_run.specs.pg_content.Covering.{AreCoveredBy, IsUpToHead}
+use Rattle.pg_run.specs.pg_content.History.{Made}
+use Rattle.pg_run.proofs.pg_content.Covering.{covered_sets}
+use Rattle.pg_run.specs.pg_edges.declared.key.Key.{Key}
+use Rattle.pg_run.specs.pg_edges.declared.key.Key.TheVariants as key
+use Rattle.pg_run.specs.pg_entries.declared.cell.Cell.{Cell}
+use Rattle.pg_run.specs.pg_entries.declared.cell.Cell.TheVariants as cell
+use Rattle.pg_run.specs.pg_entries.declared.entry.Entry.{Entry}
+use Rattle.pg_run.specs.pg_event.declared.event.Event.{Event}
+use Rattle.pg_run.specs.pg_house.Passing.{is_update}
+use Rattle.pg_run.specs.pg_msg.declared.message.Message.{Message}
+use Rattle.pg_run.specs.pg_msg.declared.message.Message.TheVariants as message
+use Rattle.pg_run.specs.pg_names.declared.attributes.Attributes.{Attributes}
+use Rattle.pg_run.specs.pg_names.Names.{cell_at as entry_at, own_or_blank}
+use Rattle.pg_run.specs.pg_register.declared.flag.Flag.{Flag}
+use Rattle.pg_run.specs.pg_register.declared.place.Place.{Place}
+use Rattle.pg_run.specs.pg_register.Flag.{IsByServer, flag_of, is_removed}
+use Rattle.pg_run.proofs.pg_register.ByServer.{Above, IsByServer-head, IsByServer-join_flags, IsByServer-nil, IsByServer-tail, below, first}
+use Rattle.pg_run.specs.pg_replica.declared.replica.Replica.{Replica}
+use Rattle.pg_run.specs.pg_replica.Replica.{cell_at as version_at}
+use Rattle.pg_run.specs.pg_replica.Replicas.{or_nothing}
+use Rattle.pg_run.proofs.pg_replica.Growth.{cell_head, head_at}
+use Rattle.pg_run.specs.pg_server.declared.input.Input.TheVariants as input
+use Rattle.pg_run.specs.pg_store.declared.store.Store.{Store}
+use Rattle.pg_run.specs.theory_flood_pieces.UpTo.{IsUpTo}
+use Rattle.pg_run.specs.pg_store.Cells.{cell_at, entry_cell, flag_cell, is_sure, version_cell}
+use Rattle.pg_run.specs.pg_store.Seen.{removed_of, server_of}
+use Rattle.pg_run.specs.pg_store.Servers.{is_live_other}
+use Rattle.pg_run.specs.pg_store.Store.{content_of, replica_at}
+use Rattle.pg_run.specs.Histories.{content_after, taken_after, versions_after}
+use Rattle.pg_run.specs.Laws.{KnowsWhatItTook, store_after}
+use Rattle.pg_run.specs.Leaving.{DropsAreSafe, GiversHaveEachCell, Goes, HasEachCell, TookAllOf, TookTheState}
+use Rattle.pg_run.specs.Passed.{has_cell}
+use Rattle.pg_run.specs.Run.{World, run}
+use Rattle.pg_run.specs.State.{own_state, versions_taken}
+use Rattle.pg_run.specs.Took.{Take, flags_in, flags_taken, place_in, places_taken}
+use Rattle.pg_run.specs.Took.Taker.{InDir, Itself}
+use Rattle.pg_run.proofs.Frame.{acts_is}
+use Rattle.pg_run.proofs.Lists.{contained_among}
 use Rattle.law_leaving.specs.Laws.{DropsLeaveAll}
 use Rattle.law_leaving.specs.Premises.{StandOn, StatesAreCited}
 use Rattle.law_leaving.specs.Taken.{IsTaken}

@@ -4,55 +4,55 @@ use Rattle.std.proofs.Common.{ℕ, ◌≡◌, ◌⊎◌, ◌++◌, ◌∷◌, []
 use Rattle.std.specs.Prelude.{Contains}
 use Rattle.std.proofs.lemmas.Bool.{and_parts, false≢true}
 use Rattle.std.proofs.lemmas.List.Elements.{All-contains, All-nil}
-use Rattle.law_births.specs.pg_base.declared.id.FileId.{FileId}
-use Rattle.law_births.specs.pg_edges.declared.key.Key.{Key}
-use Rattle.law_births.specs.pg_edges.declared.key.Key.TheVariants as key
-use Rattle.law_births.specs.pg_edges.Edges.{is_listed}
-use Rattle.law_births.specs.pg_event.declared.event.Event.{Event}
-use Rattle.law_births.specs.pg_call.declared.call.Call.{Call}
-use Rattle.law_births.specs.pg_call.declared.call.Call.TheVariants as call
-use Rattle.law_births.specs.pg_intent.declared.intent.Intent.{Intent}
-use Rattle.law_births.specs.pg_intent.declared.intent.Intent.TheVariants as intent
-use Rattle.law_births.specs.pg_intent.Intents.{HaveOwnKeys}
-use Rattle.law_births.specs.pg_msg.declared.message.Ends.{Ends}
-use Rattle.law_births.specs.pg_msg.declared.message.Message.{Message}
-use Rattle.law_births.specs.pg_msg.declared.message.Message.TheVariants as message
-use Rattle.law_births.specs.pg_msg.declared.message.Packet.{Packet}
-use Rattle.law_births.specs.pg_msg.declared.message.Sent.{Sent}
-use Rattle.law_births.specs.pg_msg.declared.work.Work.{Work}
-use Rattle.law_births.specs.pg_msg.Ends.{back}
-use Rattle.law_births.specs.pg_msg.Sent.{cell_key}
-use Rattle.law_births.specs.pg_msg.Work.{new_work}
-use Rattle.law_births.proofs.theory_flood_pieces.Choices.{chosen, decided}
-use Rattle.law_births.specs.pg_replica.declared.replica.Replica.{Replica}
-use Rattle.law_births.specs.pg_replica.Replicas.{lists_peer}
-use Rattle.law_births.specs.pg_server.declared.input.Input.{Input}
-use Rattle.law_births.specs.pg_server.declared.input.Input.TheVariants as input
-use Rattle.law_births.specs.pg_server.Local.{first_effect, is_heard, receive, takes_effect, ticked, without_sources}
-use Rattle.law_births.specs.pg_store.declared.store.Store.{Store}
-use Rattle.law_births.specs.pg_store.Links.{is_linked}
-use Rattle.law_births.specs.pg_store.Seen.{server_of}
-use Rattle.law_births.specs.pg_store.Store.{is_before_clock_end, replica_at}
-use Rattle.law_births.specs.pg_pieces.declared.accepting.EdgeUse.{EdgeUse}
-use Rattle.law_births.specs.pg_pieces.declared.accepting.EdgeUse.TheVariants as manner
-use Rattle.law_births.specs.pg_pieces.Accepting.{is_accepted, is_current, meets}
-use Rattle.law_births.specs.pg_pieces.Done.{Done, idle}
-use Rattle.law_births.specs.pg_pieces.Posting.{sent_to}
-use Rattle.law_births.specs.pg_cells.Sending.{is_chosen}
-use Rattle.law_births.specs.pg_run.Going.{ByesAreAnswered, ByesAreOwed, Hears, Owes, behind, sent_in}
-use Rattle.law_births.specs.pg_run.Laws.{TakesIn, store_after}
-use Rattle.law_births.specs.pg_run.Run.{run}
-use Rattle.law_births.proofs.pg_run.Event.{all_sent, asks_by_have, end_of, store_is}
-use Rattle.law_births.specs.pg_run.Intending.{IntentionsAreInOrder}
-use Rattle.law_births.proofs.pg_run.Frame.{acts_is}
-use Rattle.law_births.proofs.pg_run.Holders.{IsBy}
+use Rattle.pg_run.specs.pg_base.declared.id.FileId.{FileId}
+use Rattle.pg_run.specs.pg_edges.declared.key.Key.{Key}
+use Rattle.pg_run.specs.pg_edges.declared.key.Key.TheVariants as key
+use Rattle.pg_run.specs.pg_edges.Edges.{is_listed}
+use Rattle.pg_run.specs.pg_event.declared.event.Event.{Event}
+use Rattle.pg_run.specs.pg_call.declared.call.Call.{Call}
+use Rattle.pg_run.specs.pg_call.declared.call.Call.TheVariants as call
+use Rattle.pg_run.specs.pg_intent.declared.intent.Intent.{Intent}
+use Rattle.pg_run.specs.pg_intent.declared.intent.Intent.TheVariants as intent
+use Rattle.pg_run.specs.pg_intent.Intents.{HaveOwnKeys}
+use Rattle.pg_run.specs.pg_msg.declared.message.Ends.{Ends}
+use Rattle.pg_run.specs.pg_msg.declared.message.Message.{Message}
+use Rattle.pg_run.specs.pg_msg.declared.message.Message.TheVariants as message
+use Rattle.pg_run.specs.pg_msg.declared.message.Packet.{Packet}
+use Rattle.pg_run.specs.pg_msg.declared.message.Sent.{Sent}
+use Rattle.pg_run.specs.pg_msg.declared.work.Work.{Work}
+use Rattle.pg_run.specs.pg_msg.Ends.{back}
+use Rattle.pg_run.specs.pg_msg.Sent.{cell_key}
+use Rattle.pg_run.specs.pg_msg.Work.{new_work}
+use Rattle.pg_run.proofs.theory_flood_pieces.Choices.{chosen, decided}
+use Rattle.pg_run.specs.pg_replica.declared.replica.Replica.{Replica}
+use Rattle.pg_run.specs.pg_replica.Replicas.{lists_peer}
+use Rattle.pg_run.specs.pg_server.declared.input.Input.{Input}
+use Rattle.pg_run.specs.pg_server.declared.input.Input.TheVariants as input
+use Rattle.pg_run.specs.pg_server.Local.{first_effect, is_heard, receive, takes_effect, ticked, without_sources}
+use Rattle.pg_run.specs.pg_store.declared.store.Store.{Store}
+use Rattle.pg_run.specs.pg_store.Links.{is_linked}
+use Rattle.pg_run.specs.pg_store.Seen.{server_of}
+use Rattle.pg_run.specs.pg_store.Store.{is_before_clock_end, replica_at}
+use Rattle.pg_run.specs.pg_pieces.declared.accepting.EdgeUse.{EdgeUse}
+use Rattle.pg_run.specs.pg_pieces.declared.accepting.EdgeUse.TheVariants as manner
+use Rattle.pg_run.specs.pg_pieces.Accepting.{is_accepted, is_current, meets}
+use Rattle.pg_run.specs.pg_pieces.Done.{Done, idle}
+use Rattle.pg_run.specs.pg_pieces.Posting.{sent_to}
+use Rattle.pg_run.specs.pg_cells.Sending.{is_chosen}
+use Rattle.pg_run.specs.Going.{ByesAreAnswered, ByesAreOwed, Hears, Owes, behind, sent_in}
+use Rattle.pg_run.specs.Laws.{TakesIn, store_after}
+use Rattle.pg_run.specs.Run.{run}
+use Rattle.pg_run.proofs.Event.{all_sent, asks_by_have, end_of, store_is}
+use Rattle.pg_run.specs.Intending.{IntentionsAreInOrder}
+use Rattle.pg_run.proofs.Frame.{acts_is}
+use Rattle.pg_run.proofs.Holders.{IsBy}
 use Rattle.law_births.proofs.ByeEvents.{effect_bye}
 use Rattle.law_births.proofs.Owing.{found_of, owed_of}
 use Rattle.law_leaving.specs.Answers.{AnswersAreToAccepted, IsAnswered, IsBodyOf, IsCellOf, IsHarbingerOf}
 use Rattle.law_leaving.specs.Premises.{RunsStayWhole}
 use Rattle.law_leaving.proofs.Behind.{behind_is}
-use Rattle.law_births.proofs.pg_run.Sends.{AnswersHave, received_fine}
-use Rattle.law_births.proofs.pg_run.SendsCalls.{call_fine}
+use Rattle.pg_run.proofs.Sends.{AnswersHave, received_fine}
+use Rattle.pg_run.proofs.SendsCalls.{call_fine}
 use Rattle.law_leaving.proofs.PlainTicks.{asked_fine, cells_fine, is_plain, plainer, tick_fine}
 use Rattle.law_leaving.proofs.Unlinked.{unlinked_behind}
 

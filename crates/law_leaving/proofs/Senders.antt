@@ -2,15 +2,15 @@
 use Rattle.std.proofs.Common.{ℕ, ◌≡◌, ◌==◌, ◌&&◌, true, not, sym, ◌∙◌, ap}
 use Rattle.std.specs.Prelude.{nat_le}
 use Rattle.std.proofs.lemmas.Bool.{and_parts, false≢true}
-use Rattle.law_births.specs.pg_msg.declared.message.Packet.{Packet}
-use Rattle.law_births.specs.pg_msg.Numbers.{is_in_range}
-use Rattle.law_births.specs.pg_register.Flag.{is_removed}
-use Rattle.law_births.specs.pg_server.declared.input.Input.TheVariants as input
-use Rattle.law_births.specs.pg_server.Local.{takes_effect}
-use Rattle.law_births.specs.pg_store.declared.store.Store.{Store}
-use Rattle.law_births.specs.pg_store.Seen.{removed_of, server_of, view_of}
-use Rattle.law_births.specs.pg_store.Servers.{is_live_other}
-use Rattle.law_births.specs.pg_store.Store.{is_before_clock_end}
+use Rattle.pg_run.specs.pg_msg.declared.message.Packet.{Packet}
+use Rattle.pg_run.specs.pg_msg.Numbers.{is_in_range}
+use Rattle.pg_run.specs.pg_register.Flag.{is_removed}
+use Rattle.pg_run.specs.pg_server.declared.input.Input.TheVariants as input
+use Rattle.pg_run.specs.pg_server.Local.{takes_effect}
+use Rattle.pg_run.specs.pg_store.declared.store.Store.{Store}
+use Rattle.pg_run.specs.pg_store.Seen.{removed_of, server_of, view_of}
+use Rattle.pg_run.specs.pg_store.Servers.{is_live_other}
+use Rattle.pg_run.specs.pg_store.Store.{is_before_clock_end}
 
 pub sender_live : (a : Store) (packet : Packet) → takes_effect a (input.Arrival packet) ≡ true
     → is_live_other a packet.from ≡ true

@@ -1,14 +1,14 @@
 -- What is shown of moments and events, in the words of replicas that go.
 use Rattle.std.proofs.Common.{ℕ, ◌≡◌, true, List, [], ◌∷◌, ◌++◌, Some}
-use Rattle.law_births.specs.pg_base.declared.id.FileId.{FileId}
-use Rattle.law_births.specs.pg_event.declared.event.Event.{Event}
+use Rattle.pg_run.specs.pg_base.declared.id.FileId.{FileId}
+use Rattle.pg_run.specs.pg_event.declared.event.Event.{Event}
 use Rattle.theory_leaving.specs.Laws.{IsStart}
 use Rattle.theory_leaving.specs.Moment.{IsInOrder, IsKept}
 use Rattle.theory_leaving.specs.Rule.{Rule}
-use Rattle.law_births.specs.pg_register.Flag.{is_removed}
-use Rattle.law_births.specs.pg_run.Laws.{store_after}
-use Rattle.law_births.specs.pg_run.Run.{Taking, run, taking_in}
-use Rattle.law_births.specs.pg_store.Seen.{removed_of}
+use Rattle.pg_run.specs.pg_register.Flag.{is_removed}
+use Rattle.pg_run.specs.Laws.{store_after}
+use Rattle.pg_run.specs.Run.{Taking, run, taking_in}
+use Rattle.pg_run.specs.pg_store.Seen.{removed_of}
 use Rattle.law_leaving.specs.Seen.{leaving, turn}
 use Rattle.law_leaving.proofs.Behind.{EachStaysOrGoes}
 

@@ -3,46 +3,46 @@ use Rattle.std.proofs.Common.{ℕ, ◌≡◌, ◌≢◌, ◌≤◌, ◌<◌, ◌
 use Rattle.std.specs.Prelude.{Contains}
 use Rattle.std.proofs.lemmas.Bool.{eqb-true, false≢true}
 use Rattle.std.proofs.lemmas.Option.{none-some, same_Some}
-use Rattle.law_births.specs.pg_base.declared.id.FileId.{FileId}
-use Rattle.law_births.specs.pg_base.Id.{is_same_file}
-use Rattle.law_births.proofs.pg_base.Orders.{is_same_file-true}
-use Rattle.law_births.proofs.pg_content.Members.{map_among}
-use Rattle.law_births.specs.pg_edges.declared.key.Key.{Key}
-use Rattle.law_births.specs.pg_edges.declared.key.Key.TheVariants as key
-use Rattle.law_births.specs.pg_edges.Edges.{is_listed}
-use Rattle.law_births.specs.pg_entries.declared.cell.Cell.{Cell}
-use Rattle.law_births.specs.pg_entries.declared.cell.Cell.TheVariants as cell
-use Rattle.law_births.specs.pg_entries.declared.entry.Entry.{Entry}
-use Rattle.law_births.specs.pg_event.declared.event.Event.{Event}
-use Rattle.law_births.specs.theory_flood.Protocol.{Covers, Has, KeepsEdges}
-use Rattle.law_births.specs.theory_flood.Server.{Replica as Seen, Slot}
-use Rattle.law_births.proofs.theory_flood.Worlds.{start_keeps}
-use Rattle.law_births.specs.pg_intent.declared.intent.Intent.{Intent}
-use Rattle.law_births.specs.pg_intent.declared.intent.Intent.TheVariants as intent
+use Rattle.pg_run.specs.pg_base.declared.id.FileId.{FileId}
+use Rattle.pg_run.specs.pg_base.Id.{is_same_file}
+use Rattle.pg_run.proofs.pg_base.Orders.{is_same_file-true}
+use Rattle.pg_run.proofs.pg_content.Members.{map_among}
+use Rattle.pg_run.specs.pg_edges.declared.key.Key.{Key}
+use Rattle.pg_run.specs.pg_edges.declared.key.Key.TheVariants as key
+use Rattle.pg_run.specs.pg_edges.Edges.{is_listed}
+use Rattle.pg_run.specs.pg_entries.declared.cell.Cell.{Cell}
+use Rattle.pg_run.specs.pg_entries.declared.cell.Cell.TheVariants as cell
+use Rattle.pg_run.specs.pg_entries.declared.entry.Entry.{Entry}
+use Rattle.pg_run.specs.pg_event.declared.event.Event.{Event}
+use Rattle.pg_run.specs.theory_flood.Protocol.{Covers, Has, KeepsEdges}
+use Rattle.pg_run.specs.theory_flood.Server.{Replica as Seen, Slot}
+use Rattle.pg_run.proofs.theory_flood.Worlds.{start_keeps}
+use Rattle.pg_run.specs.pg_intent.declared.intent.Intent.{Intent}
+use Rattle.pg_run.specs.pg_intent.declared.intent.Intent.TheVariants as intent
 use Rattle.theory_leaving.specs.Laws.{IsStart}
 use Rattle.theory_leaving.specs.Moment.{IsNamedBack}
-use Rattle.law_births.specs.pg_names.declared.attributes.Attributes.{Attributes}
-use Rattle.law_births.specs.pg_names.Names.{cell_at as entry_at, or_blank, own_of, own_or_blank}
-use Rattle.law_births.specs.theory_flood_pieces.Seen.{cells, plain, seen}
-use Rattle.law_births.specs.theory_flood_pieces.Whole.{IsEdge, IsOther}
-use Rattle.law_births.proofs.theory_flood_pieces.Graphs.{clean_are}
-use Rattle.law_births.proofs.theory_flood_pieces.Listed.{listed_first}
-use Rattle.law_births.proofs.theory_flood_pieces.Start.{Root, first_born, no_entry, start_kept}
-use Rattle.law_births.proofs.theory_flood_pieces.Stores.{plain_at}
-use Rattle.law_births.specs.pg_register.declared.flag.Flag.{Flag}
-use Rattle.law_births.specs.pg_register.Flag.{flag_of}
-use Rattle.law_births.specs.pg_register.Place.{root, root_place}
-use Rattle.law_births.specs.pg_replica.Replica.{cell_at as head_at}
-use Rattle.law_births.specs.pg_replica.Replicas.{or_nothing}
-use Rattle.law_births.specs.pg_replica.Root.{clean_edges, first_root}
-use Rattle.law_births.specs.pg_store.Cells.{entry_cell, flag_cell, version_cell}
-use Rattle.law_births.specs.pg_store.Start.{first_flags, first_names, root_own}
-use Rattle.law_births.specs.pg_store.Store.{new_store}
-use Rattle.law_births.specs.pg_run.Run.{start}
-use Rattle.law_births.specs.pg_run.Took.{Take, first_takes}
-use Rattle.law_births.specs.pg_run.Took.Take.{TookFlag}
-use Rattle.law_births.specs.pg_run.Took.Taker.{Itself}
-use Rattle.law_births.proofs.pg_run.Found.{flag_found, listed_edge}
+use Rattle.pg_run.specs.pg_names.declared.attributes.Attributes.{Attributes}
+use Rattle.pg_run.specs.pg_names.Names.{cell_at as entry_at, or_blank, own_of, own_or_blank}
+use Rattle.pg_run.specs.theory_flood_pieces.Seen.{cells, plain, seen}
+use Rattle.pg_run.specs.theory_flood_pieces.Whole.{IsEdge, IsOther}
+use Rattle.pg_run.proofs.theory_flood_pieces.Graphs.{clean_are}
+use Rattle.pg_run.proofs.theory_flood_pieces.Listed.{listed_first}
+use Rattle.pg_run.proofs.theory_flood_pieces.Start.{Root, first_born, no_entry, start_kept}
+use Rattle.pg_run.proofs.theory_flood_pieces.Stores.{plain_at}
+use Rattle.pg_run.specs.pg_register.declared.flag.Flag.{Flag}
+use Rattle.pg_run.specs.pg_register.Flag.{flag_of}
+use Rattle.pg_run.specs.pg_register.Place.{root, root_place}
+use Rattle.pg_run.specs.pg_replica.Replica.{cell_at as head_at}
+use Rattle.pg_run.specs.pg_replica.Replicas.{or_nothing}
+use Rattle.pg_run.specs.pg_replica.Root.{clean_edges, first_root}
+use Rattle.pg_run.specs.pg_store.Cells.{entry_cell, flag_cell, version_cell}
+use Rattle.pg_run.specs.pg_store.Start.{first_flags, first_names, root_own}
+use Rattle.pg_run.specs.pg_store.Store.{new_store}
+use Rattle.pg_run.specs.Run.{start}
+use Rattle.pg_run.specs.Took.{Take, first_takes}
+use Rattle.pg_run.specs.Took.Take.{TookFlag}
+use Rattle.pg_run.specs.Took.Taker.{Itself}
+use Rattle.pg_run.proofs.Found.{flag_found, listed_edge}
 use Rattle.law_leaving.specs.Seen.{leaving}
 use Rattle.law_leaving.specs.Taken.{IsTaken, site, taking}
 use Rattle.law_leaving.proofs.Lists.{member_at}

@@ -3,22 +3,22 @@ use Rattle.std.proofs.Common.{ℕ, ◌≡◌, ◌&&◌, true, false, cond, List,
 use Rattle.std.specs.Prelude.{Contains}
 use Rattle.std.specs.List.{flat_map}
 use Rattle.std.proofs.lemmas.Bool.{and_from}
-use Rattle.law_births.specs.pg_base.declared.id.FileId.{FileId}
-use Rattle.law_births.specs.pg_base.Id.{is_same_file}
-use Rattle.law_births.proofs.pg_base.Orders.{is_same_file-refl, is_same_file-true}
-use Rattle.law_births.specs.pg_content.Content.{Among}
-use Rattle.law_births.proofs.pg_content.Members.{map_among}
-use Rattle.law_births.specs.pg_entries.declared.cell.Cell.{Cell}
-use Rattle.law_births.specs.pg_entries.declared.cell.Cell.TheVariants as cell
-use Rattle.law_births.specs.pg_msg.declared.update.Update.{Update}
-use Rattle.law_births.specs.pg_register.declared.flag.Flag.{Flag}
-use Rattle.law_births.specs.pg_register.declared.place.Place.{Place}
-use Rattle.law_births.specs.pg_run.Passed.{passed, passed_with, passes}
-use Rattle.law_births.specs.pg_run.Took.{Take, Taker, flag_taken_by, flags_taken, held, is_same_taker, is_taker, place_taken_by, places_taken, take_of, takes_in, without}
-use Rattle.law_births.specs.pg_run.Took.Take.{TookFlag, TookPlace}
-use Rattle.law_births.specs.pg_run.Took.Taker.{InDir, Itself}
-use Rattle.law_births.proofs.pg_run.Gone.{flags_stay, places_stay}
-use Rattle.law_births.proofs.pg_run.Lists.{among_back, among_contained, among_pieces, contained_among, pieces_among}
+use Rattle.pg_run.specs.pg_base.declared.id.FileId.{FileId}
+use Rattle.pg_run.specs.pg_base.Id.{is_same_file}
+use Rattle.pg_run.proofs.pg_base.Orders.{is_same_file-refl, is_same_file-true}
+use Rattle.pg_run.specs.pg_content.Content.{Among}
+use Rattle.pg_run.proofs.pg_content.Members.{map_among}
+use Rattle.pg_run.specs.pg_entries.declared.cell.Cell.{Cell}
+use Rattle.pg_run.specs.pg_entries.declared.cell.Cell.TheVariants as cell
+use Rattle.pg_run.specs.pg_msg.declared.update.Update.{Update}
+use Rattle.pg_run.specs.pg_register.declared.flag.Flag.{Flag}
+use Rattle.pg_run.specs.pg_register.declared.place.Place.{Place}
+use Rattle.pg_run.specs.Passed.{passed, passed_with, passes}
+use Rattle.pg_run.specs.Took.{Take, Taker, flag_taken_by, flags_taken, held, is_same_taker, is_taker, place_taken_by, places_taken, take_of, takes_in, without}
+use Rattle.pg_run.specs.Took.Take.{TookFlag, TookPlace}
+use Rattle.pg_run.specs.Took.Taker.{InDir, Itself}
+use Rattle.pg_run.proofs.Gone.{flags_stay, places_stay}
+use Rattle.pg_run.proofs.Lists.{among_back, among_contained, among_pieces, contained_among, pieces_among}
 use Rattle.law_leaving.specs.Taken.{IsTaken}
 
 -- all that is among the first is among the second

@@ -2,51 +2,51 @@
 use Rattle.std.proofs.Common.{ℕ, ◌≡◌, Bool, true, false, cond, List, [], ◌∷◌, Option, None, Some, refl, sym, ap, subst, ◌∙◌, inl, inr, ◌⊎◌}
 use Rattle.std.specs.Prelude.{Contains}
 use Rattle.std.proofs.lemmas.Bool.{and_from}
-use Rattle.law_births.specs.pg_base.declared.head.Head.{Head}
-use Rattle.law_births.specs.pg_base.declared.id.FileId.{FileId}
-use Rattle.law_births.specs.pg_base.Id.{is_same_file}
-use Rattle.law_births.proofs.pg_base.Orders.{is_same_file-true}
-use Rattle.law_births.specs.pg_pieces.Accepting.{is_current}
-use Rattle.law_births.specs.pg_cells.Cells.{fits}
-use Rattle.law_births.specs.pg_content.Content.{Among}
-use Rattle.law_births.specs.pg_edges.declared.key.Key.{Key}
-use Rattle.law_births.specs.pg_entries.declared.cell.Cell.{Cell}
-use Rattle.law_births.specs.pg_entries.declared.cell.Cell.TheVariants as cell
-use Rattle.law_births.specs.pg_event.declared.event.Event.{Event}
-use Rattle.law_births.specs.theory_flood.Promises.{Saying}
-use Rattle.law_births.specs.theory_flood.Promises.Saying.{AckTo, CellFor, Other}
-use Rattle.law_births.specs.theory_flood.Noting.{SaidIn, noting}
-use Rattle.law_births.specs.theory_flood.Rule.{Rule}
-use Rattle.law_births.specs.theory_flood.Server.{HoldsThere, Slot}
-use Rattle.law_births.proofs.theory_flood.Late.{wider}
-use Rattle.law_births.proofs.theory_flood.Taken.{taking_rule}
-use Rattle.law_births.specs.pg_msg.declared.message.Ends.{Ends}
-use Rattle.law_births.specs.pg_msg.declared.message.Message.{Message}
-use Rattle.law_births.specs.pg_msg.declared.message.Message.TheVariants as message
-use Rattle.law_births.specs.pg_msg.declared.message.Packet.{Packet}
-use Rattle.law_births.specs.pg_msg.declared.message.Sent.{Sent}
-use Rattle.law_births.specs.theory_flood_pieces.Seen.{answering, plain, says, saying, see}
-use Rattle.law_births.specs.theory_flood_pieces.UpTo.{IsUpTo}
-use Rattle.law_births.proofs.theory_flood_pieces.Choices.{decided}
-use Rattle.law_births.proofs.theory_flood_pieces.Sending.{harbinger_says, no_answer}
-use Rattle.law_births.specs.pg_server.declared.input.Input.{Input}
-use Rattle.law_births.specs.pg_server.Local.{effect, takes_effect}
-use Rattle.law_births.specs.pg_store.declared.store.Store.{Store}
-use Rattle.law_births.specs.pg_store.Births.{is_over}
-use Rattle.law_births.specs.pg_store.Together.{BirthsMove}
-use Rattle.law_births.proofs.pg_store.Over.{over_stays, over_tested}
-use Rattle.law_births.specs.pg_run.Carried.{came, carried, gone_in}
-use Rattle.law_births.specs.pg_run.Going.{Hears, sent_in}
-use Rattle.law_births.specs.pg_run.Laws.{TakesIn}
-use Rattle.law_births.specs.pg_run.Passed.{passed, passed_with}
-use Rattle.law_births.specs.pg_run.Asking.{Asked}
-use Rattle.law_births.specs.pg_run.Journal.{mail}
-use Rattle.law_births.specs.pg_run.Ruled.{heard_in, late_in}
-use Rattle.law_births.specs.pg_run.Run.{World, brought, made_behind, made_takes, removed_then, run, took_after, took_first}
-use Rattle.law_births.specs.pg_run.Took.{Take, takes_in, without_gone}
-use Rattle.law_births.proofs.pg_run.Frame.{acts_is}
-use Rattle.law_births.proofs.pg_run.Late.{late_in_mail, late_told}
-use Rattle.law_births.proofs.pg_run.Lists.{among_back, among_front}
+use Rattle.pg_run.specs.pg_base.declared.head.Head.{Head}
+use Rattle.pg_run.specs.pg_base.declared.id.FileId.{FileId}
+use Rattle.pg_run.specs.pg_base.Id.{is_same_file}
+use Rattle.pg_run.proofs.pg_base.Orders.{is_same_file-true}
+use Rattle.pg_run.specs.pg_pieces.Accepting.{is_current}
+use Rattle.pg_run.specs.pg_cells.Cells.{fits}
+use Rattle.pg_run.specs.pg_content.Content.{Among}
+use Rattle.pg_run.specs.pg_edges.declared.key.Key.{Key}
+use Rattle.pg_run.specs.pg_entries.declared.cell.Cell.{Cell}
+use Rattle.pg_run.specs.pg_entries.declared.cell.Cell.TheVariants as cell
+use Rattle.pg_run.specs.pg_event.declared.event.Event.{Event}
+use Rattle.pg_run.specs.theory_flood.Promises.{Saying}
+use Rattle.pg_run.specs.theory_flood.Promises.Saying.{AckTo, CellFor, Other}
+use Rattle.pg_run.specs.theory_flood.Noting.{SaidIn, noting}
+use Rattle.pg_run.specs.theory_flood.Rule.{Rule}
+use Rattle.pg_run.specs.theory_flood.Server.{HoldsThere, Slot}
+use Rattle.pg_run.proofs.theory_flood.Late.{wider}
+use Rattle.pg_run.proofs.theory_flood.Taken.{taking_rule}
+use Rattle.pg_run.specs.pg_msg.declared.message.Ends.{Ends}
+use Rattle.pg_run.specs.pg_msg.declared.message.Message.{Message}
+use Rattle.pg_run.specs.pg_msg.declared.message.Message.TheVariants as message
+use Rattle.pg_run.specs.pg_msg.declared.message.Packet.{Packet}
+use Rattle.pg_run.specs.pg_msg.declared.message.Sent.{Sent}
+use Rattle.pg_run.specs.theory_flood_pieces.Seen.{answering, plain, says, saying, see}
+use Rattle.pg_run.specs.theory_flood_pieces.UpTo.{IsUpTo}
+use Rattle.pg_run.proofs.theory_flood_pieces.Choices.{decided}
+use Rattle.pg_run.proofs.theory_flood_pieces.Sending.{harbinger_says, no_answer}
+use Rattle.pg_run.specs.pg_server.declared.input.Input.{Input}
+use Rattle.pg_run.specs.pg_server.Local.{effect, takes_effect}
+use Rattle.pg_run.specs.pg_store.declared.store.Store.{Store}
+use Rattle.pg_run.specs.pg_store.Births.{is_over}
+use Rattle.pg_run.specs.pg_store.Together.{BirthsMove}
+use Rattle.pg_run.proofs.pg_store.Over.{over_stays, over_tested}
+use Rattle.pg_run.specs.Carried.{came, carried, gone_in}
+use Rattle.pg_run.specs.Going.{Hears, sent_in}
+use Rattle.pg_run.specs.Laws.{TakesIn}
+use Rattle.pg_run.specs.Passed.{passed, passed_with}
+use Rattle.pg_run.specs.Asking.{Asked}
+use Rattle.pg_run.specs.Journal.{mail}
+use Rattle.pg_run.specs.Ruled.{heard_in, late_in}
+use Rattle.pg_run.specs.Run.{World, brought, made_behind, made_takes, removed_then, run, took_after, took_first}
+use Rattle.pg_run.specs.Took.{Take, takes_in, without_gone}
+use Rattle.pg_run.proofs.Frame.{acts_is}
+use Rattle.pg_run.proofs.Late.{late_in_mail, late_told}
+use Rattle.pg_run.proofs.Lists.{among_back, among_front}
 use Rattle.law_leaving.specs.Answers.{AnswersAreToAccepted, IsBodyOf, IsCellOf, IsHarbingerOf}
 use Rattle.law_leaving.specs.Premises.{StandOn}
 use Rattle.law_leaving.specs.Taken.{IsTaken, Site, site, taking}

@@ -2,39 +2,39 @@
 -- house rules and the intentions make none.
 use Rattle.std.proofs.Common.{ℕ, ◌≡◌, ◌==◌, true, false, cond, List, [], ◌∷◌, length, drop, Option, None, Some, is_some, eq-eqb, refl, sym, ap, subst, ◌∙◌}
 use Rattle.std.proofs.lemmas.Bool.{false≢true, and_from}
-use Rattle.law_births.specs.pg_base.declared.id.FileId.{FileId}
-use Rattle.law_births.specs.pg_edges.declared.edge.Edge.{Edge}
-use Rattle.law_births.specs.pg_edges.declared.key.Key.TheVariants as key
-use Rattle.law_births.specs.pg_edges.Edges.{is_listed, keys_at, unlinked}
-use Rattle.law_births.proofs.pg_edges.Lookups.{unlinks}
-use Rattle.law_births.specs.pg_house.House.{house}
-use Rattle.law_births.specs.pg_house.Work.{state_of}
-use Rattle.law_births.specs.pg_msg.declared.message.Ends.{Ends}
-use Rattle.law_births.specs.pg_msg.declared.message.Message.{Message}
-use Rattle.law_births.specs.pg_msg.declared.message.Message.TheVariants as message
-use Rattle.law_births.specs.pg_msg.declared.message.Packet.{Packet}
-use Rattle.law_births.specs.pg_msg.declared.work.Touched.{Touched}
-use Rattle.law_births.specs.pg_msg.declared.work.Work.{Work}
-use Rattle.law_births.specs.pg_msg.Work.{new_work}
-use Rattle.law_births.specs.pg_names.Names.{NamesValue, join_flag}
-use Rattle.law_births.proofs.theory_flood_pieces.Choices.{chosen, decided}
-use Rattle.law_births.proofs.theory_flood_pieces.Stores.{replica_here}
-use Rattle.law_births.proofs.theory_flood_pieces.Touching.{IsTouchedBy, StaysIf, all_touched, one_touched, touched_behind}
-use Rattle.law_births.specs.pg_register.declared.flag.Flag.{Flag}
-use Rattle.law_births.specs.pg_replica.declared.replica.Replica.{Replica}
-use Rattle.law_births.specs.pg_replica.Replica.{with_unlink}
-use Rattle.law_births.specs.pg_replica.Replicas.{ByFile, lists_peer, replica_in, replicas_unlinked}
-use Rattle.law_births.proofs.pg_intentions.Steady.{begin_end_stays}
-use Rattle.law_births.specs.pg_server.declared.input.Input.TheVariants as input
-use Rattle.law_births.specs.pg_server.Local.{effect, first_effect, intended, is_heard, receive, settled, takes_effect}
-use Rattle.law_births.specs.pg_store.declared.store.Store.{Store}
-use Rattle.law_births.specs.pg_store.Links.{is_linked, unlink}
-use Rattle.law_births.specs.pg_store.Store.{is_newer_flag, put_flag, replica_at, take_flag, with_names}
-use Rattle.law_births.specs.pg_pieces.Done.{Done, idle}
-use Rattle.law_births.specs.pg_pieces.Making.{own_next}
-use Rattle.law_births.specs.pg_cells.Settling.{rules, settle, touch_all}
-use Rattle.law_births.proofs.pg_cells.Settled.{settle_keeps}
-use Rattle.law_births.proofs.pg_run.Event.{store_is}
+use Rattle.pg_run.specs.pg_base.declared.id.FileId.{FileId}
+use Rattle.pg_run.specs.pg_edges.declared.edge.Edge.{Edge}
+use Rattle.pg_run.specs.pg_edges.declared.key.Key.TheVariants as key
+use Rattle.pg_run.specs.pg_edges.Edges.{is_listed, keys_at, unlinked}
+use Rattle.pg_run.proofs.pg_edges.Lookups.{unlinks}
+use Rattle.pg_run.specs.pg_house.House.{house}
+use Rattle.pg_run.specs.pg_house.Work.{state_of}
+use Rattle.pg_run.specs.pg_msg.declared.message.Ends.{Ends}
+use Rattle.pg_run.specs.pg_msg.declared.message.Message.{Message}
+use Rattle.pg_run.specs.pg_msg.declared.message.Message.TheVariants as message
+use Rattle.pg_run.specs.pg_msg.declared.message.Packet.{Packet}
+use Rattle.pg_run.specs.pg_msg.declared.work.Touched.{Touched}
+use Rattle.pg_run.specs.pg_msg.declared.work.Work.{Work}
+use Rattle.pg_run.specs.pg_msg.Work.{new_work}
+use Rattle.pg_run.specs.pg_names.Names.{NamesValue, join_flag}
+use Rattle.pg_run.proofs.theory_flood_pieces.Choices.{chosen, decided}
+use Rattle.pg_run.proofs.theory_flood_pieces.Stores.{replica_here}
+use Rattle.pg_run.proofs.theory_flood_pieces.Touching.{IsTouchedBy, StaysIf, all_touched, one_touched, touched_behind}
+use Rattle.pg_run.specs.pg_register.declared.flag.Flag.{Flag}
+use Rattle.pg_run.specs.pg_replica.declared.replica.Replica.{Replica}
+use Rattle.pg_run.specs.pg_replica.Replica.{with_unlink}
+use Rattle.pg_run.specs.pg_replica.Replicas.{ByFile, lists_peer, replica_in, replicas_unlinked}
+use Rattle.pg_run.proofs.pg_intentions.Steady.{begin_end_stays}
+use Rattle.pg_run.specs.pg_server.declared.input.Input.TheVariants as input
+use Rattle.pg_run.specs.pg_server.Local.{effect, first_effect, intended, is_heard, receive, settled, takes_effect}
+use Rattle.pg_run.specs.pg_store.declared.store.Store.{Store}
+use Rattle.pg_run.specs.pg_store.Links.{is_linked, unlink}
+use Rattle.pg_run.specs.pg_store.Store.{is_newer_flag, put_flag, replica_at, take_flag, with_names}
+use Rattle.pg_run.specs.pg_pieces.Done.{Done, idle}
+use Rattle.pg_run.specs.pg_pieces.Making.{own_next}
+use Rattle.pg_run.specs.pg_cells.Settling.{rules, settle, touch_all}
+use Rattle.pg_run.proofs.pg_cells.Settled.{settle_keeps}
+use Rattle.pg_run.proofs.Event.{store_is}
 
 -- ---- keys are touched, names change: edges lead where they led
 

@@ -2,15 +2,15 @@
 use Rattle.std.proofs.Common.{ℕ, ◌≡◌, ◌≤◌, ◌||◌, ◌==◌, Bool, true, false, zero, suc, List, [], ◌∷◌, ◌++◌, Some, refl, sym, ap, subst, ◌∙◌, arith}
 use Rattle.std.specs.Prelude.{nat_le, take}
 use Rattle.std.proofs.lemmas.Bool.{false≢true, leb-false, leb-true}
-use Rattle.law_births.specs.pg_event.declared.event.Event.{Event}
-use Rattle.law_births.specs.pg_register.Flag.{is_removed}
-use Rattle.law_births.specs.pg_store.declared.store.Store.{Store}
-use Rattle.law_births.specs.pg_store.Seen.{removed_of, view_of}
-use Rattle.law_births.specs.pg_store.Store.{new_store}
-use Rattle.law_births.specs.pg_run.Journal.{removals}
-use Rattle.law_births.specs.pg_run.Laws.{store_after}
-use Rattle.law_births.specs.pg_run.Run.{Taking, World, run, taking_in}
-use Rattle.law_births.proofs.pg_run.Frame.{Acts, OutlivesEvents, acts_is, holds_in_runs, no_server_comes, other_after}
+use Rattle.pg_run.specs.pg_event.declared.event.Event.{Event}
+use Rattle.pg_run.specs.pg_register.Flag.{is_removed}
+use Rattle.pg_run.specs.pg_store.declared.store.Store.{Store}
+use Rattle.pg_run.specs.pg_store.Seen.{removed_of, view_of}
+use Rattle.pg_run.specs.pg_store.Store.{new_store}
+use Rattle.pg_run.specs.Journal.{removals}
+use Rattle.pg_run.specs.Laws.{store_after}
+use Rattle.pg_run.specs.Run.{Taking, World, run, taking_in}
+use Rattle.pg_run.proofs.Frame.{Acts, OutlivesEvents, acts_is, holds_in_runs, no_server_comes, other_after}
 use Rattle.law_leaving.specs.Premises.{StandOn}
 
 -- ---- fronts

@@ -1,15 +1,15 @@
 -- Who says what a message says, and which message says it.
 use Rattle.std.proofs.Common.{ℕ, ◌≡◌, Bool, true, false, cond, refl, ap, subst, ◌∙◌}
-use Rattle.law_births.specs.pg_base.declared.id.FileId.{FileId}
-use Rattle.law_births.specs.pg_base.declared.stamp.Stamp.{Stamp}
-use Rattle.law_births.specs.pg_base.Id.{is_same_file}
-use Rattle.law_births.proofs.pg_base.Orders.{is_same_file-refl, is_same_file-true}
+use Rattle.pg_run.specs.pg_base.declared.id.FileId.{FileId}
+use Rattle.pg_run.specs.pg_base.declared.stamp.Stamp.{Stamp}
+use Rattle.pg_run.specs.pg_base.Id.{is_same_file}
+use Rattle.pg_run.proofs.pg_base.Orders.{is_same_file-refl, is_same_file-true}
 use Rattle.theory_leaving.specs.Protocol.{Word}
 use Rattle.theory_leaving.specs.Protocol.Word.{Gone, Bye, ByeOk, LeaveOk, Other}
-use Rattle.law_births.specs.pg_msg.declared.message.Ends.{Ends}
-use Rattle.law_births.specs.pg_msg.declared.message.Message.{Message}
-use Rattle.law_births.specs.pg_msg.declared.message.Message.TheVariants as message
-use Rattle.law_births.proofs.theory_flood_pieces.Choices.{decided}
+use Rattle.pg_run.specs.pg_msg.declared.message.Ends.{Ends}
+use Rattle.pg_run.specs.pg_msg.declared.message.Message.{Message}
+use Rattle.pg_run.specs.pg_msg.declared.message.Message.TheVariants as message
+use Rattle.pg_run.proofs.theory_flood_pieces.Choices.{decided}
 use Rattle.law_leaving.specs.Seen.{if_of, word_of}
 
 -- the server that a word names first

@@ -1,22 +1,22 @@
 -- Who answers accepted what came: a cell, the harbinger of a version, or its body. A statement on
 -- all runs.
 use Rattle.std.specs.Prelude.{ℕ, ◌≡◌, ◌⊎◌, true, false, Contains}
-use Rattle.law_births.specs.pg_base.declared.head.Head.{Head}
-use Rattle.law_births.specs.pg_edges.declared.key.Key.{Key}
-use Rattle.law_births.specs.pg_entries.declared.cell.Cell.{Cell}
-use Rattle.law_births.specs.pg_msg.declared.message.Delta.{Delta}
-use Rattle.law_births.specs.pg_msg.declared.message.Ends.{Ends}
-use Rattle.law_births.specs.pg_msg.declared.message.Message.TheVariants as message
-use Rattle.law_births.specs.pg_msg.declared.message.Packet.{Packet}
-use Rattle.law_births.specs.pg_msg.declared.message.Piece.{Piece}
-use Rattle.law_births.specs.pg_msg.declared.message.Sent.{Sent}
-use Rattle.law_births.specs.pg_names.Names.{is_dir}
-use Rattle.law_births.specs.pg_pieces.declared.accepting.EdgeUse.TheVariants as manner
-use Rattle.law_births.specs.pg_pieces.Accepting.{is_accepted, is_current}
-use Rattle.law_births.specs.pg_cells.Cells.{fits}
-use Rattle.law_births.specs.pg_run.Going.{Hears, InEvents, sent_in}
-use Rattle.law_births.specs.pg_server.declared.input.Input.{Input}
-use Rattle.law_births.specs.pg_store.declared.store.Store.{Store}
+use Rattle.pg_run.specs.pg_base.declared.head.Head.{Head}
+use Rattle.pg_run.specs.pg_edges.declared.key.Key.{Key}
+use Rattle.pg_run.specs.pg_entries.declared.cell.Cell.{Cell}
+use Rattle.pg_run.specs.pg_msg.declared.message.Delta.{Delta}
+use Rattle.pg_run.specs.pg_msg.declared.message.Ends.{Ends}
+use Rattle.pg_run.specs.pg_msg.declared.message.Message.TheVariants as message
+use Rattle.pg_run.specs.pg_msg.declared.message.Packet.{Packet}
+use Rattle.pg_run.specs.pg_msg.declared.message.Piece.{Piece}
+use Rattle.pg_run.specs.pg_msg.declared.message.Sent.{Sent}
+use Rattle.pg_run.specs.pg_names.Names.{is_dir}
+use Rattle.pg_run.specs.pg_pieces.declared.accepting.EdgeUse.TheVariants as manner
+use Rattle.pg_run.specs.pg_pieces.Accepting.{is_accepted, is_current}
+use Rattle.pg_run.specs.pg_cells.Cells.{fits}
+use Rattle.pg_run.specs.Going.{Hears, InEvents, sent_in}
+use Rattle.pg_run.specs.pg_server.declared.input.Input.{Input}
+use Rattle.pg_run.specs.pg_store.declared.store.Store.{Store}
 
 -- a cell came that the thing may have
 abbrev pub IsCellOf : Packet → Ends → Type 0

@@ -1,14 +1,14 @@
 -- What is said of replicas that go along every run.
 use Rattle.std.specs.Prelude.{ℕ, ◌≡◌, false, List, Some}
-use Rattle.law_births.specs.pg_base.declared.id.FileId.{FileId}
-use Rattle.law_births.specs.pg_edges.declared.key.Key.{Key}
-use Rattle.law_births.specs.pg_entries.declared.cell.Cell.{Cell}
-use Rattle.law_births.specs.pg_event.declared.event.Event.{Event}
-use Rattle.law_births.specs.pg_register.Flag.{is_removed}
-use Rattle.law_births.specs.pg_store.Cells.{cell_at}
-use Rattle.law_births.specs.pg_store.Seen.{removed_of}
-use Rattle.law_births.specs.pg_run.Leaving.{Goes, HasEachCell}
-use Rattle.law_births.specs.pg_run.Run.{World, run}
+use Rattle.pg_run.specs.pg_base.declared.id.FileId.{FileId}
+use Rattle.pg_run.specs.pg_edges.declared.key.Key.{Key}
+use Rattle.pg_run.specs.pg_entries.declared.cell.Cell.{Cell}
+use Rattle.pg_run.specs.pg_event.declared.event.Event.{Event}
+use Rattle.pg_run.specs.pg_register.Flag.{is_removed}
+use Rattle.pg_run.specs.pg_store.Cells.{cell_at}
+use Rattle.pg_run.specs.pg_store.Seen.{removed_of}
+use Rattle.pg_run.specs.Leaving.{Goes, HasEachCell}
+use Rattle.pg_run.specs.Run.{World, run}
 use Rattle.law_leaving.specs.Taken.{IsTaken}
 
 -- server t holds the thing with this birth, is not removed in the view of server s, and has every

@@ -1,17 +1,17 @@
 -- What is asked of runs here, that other laws give.
 use Rattle.std.specs.Prelude.{ℕ, List}
-use Rattle.law_births.specs.pg_event.declared.event.Event.{Event}
-use Rattle.law_births.specs.theory_flood_pieces.Whole.{IsWhole}
-use Rattle.law_births.specs.pg_run.Births.{BirthsAreAlone, BirthsAreKnown, BirthsMoveOn, GoneSays, LinksNameTheSender}
-use Rattle.law_births.specs.pg_run.Going.{BirthsEndByLeave, ByesBeginWhereOneGoes, ByesEndByAnswers, EachPeerIsTold, EdgesGoByWord, FlagsAreMadeWhereHeld}
-use Rattle.law_births.specs.pg_run.Grown.{EventsGrow}
-use Rattle.law_births.specs.pg_run.Histories.{MakesHistories, StateIsItsHeads}
-use Rattle.law_births.specs.pg_run.Intending.{IntentionsAreInOrder}
-use Rattle.law_births.specs.pg_run.Known.{CarriedIsKnown, FlagsAreOwn}
-use Rattle.law_births.specs.pg_run.Laws.{HoldsWhatItTook, NamesMerge}
-use Rattle.law_births.specs.pg_run.Ruled.{EventsKeepTheRule, WhatGoesIsOver}
-use Rattle.law_births.specs.pg_run.Run.{run}
-use Rattle.law_births.specs.pg_run.Views.{ViewsArePrefixes, ViewsGrow}
+use Rattle.pg_run.specs.pg_event.declared.event.Event.{Event}
+use Rattle.pg_run.specs.theory_flood_pieces.Whole.{IsWhole}
+use Rattle.pg_run.specs.Births.{BirthsAreAlone, BirthsAreKnown, BirthsMoveOn, GoneSays, LinksNameTheSender}
+use Rattle.pg_run.specs.Going.{BirthsEndByLeave, ByesBeginWhereOneGoes, ByesEndByAnswers, EachPeerIsTold, EdgesGoByWord, FlagsAreMadeWhereHeld}
+use Rattle.pg_run.specs.Grown.{EventsGrow}
+use Rattle.pg_run.specs.Histories.{MakesHistories, StateIsItsHeads}
+use Rattle.pg_run.specs.Intending.{IntentionsAreInOrder}
+use Rattle.pg_run.specs.Known.{CarriedIsKnown, FlagsAreOwn}
+use Rattle.pg_run.specs.Laws.{HoldsWhatItTook, NamesMerge}
+use Rattle.pg_run.specs.Ruled.{EventsKeepTheRule, WhatGoesIsOver}
+use Rattle.pg_run.specs.Run.{run}
+use Rattle.pg_run.specs.Views.{ViewsArePrefixes, ViewsGrow}
 
 -- edges are to other servers
 abbrev pub RunsStayWhole : ℕ → Type 0

@@ -1,28 +1,28 @@
 -- The servers of a run, as replicas of one thing that go see them.
 use Rattle.std.specs.Prelude.{ℕ, ◌≡◌, ◌≤◌, ◌++◌, ◌∷◌, [], true, if◌then◌else◌, Contains, List, Option, None, Some}
-use Rattle.law_births.specs.pg_base.declared.id.FileId.{FileId}
-use Rattle.law_births.specs.pg_base.Id.{is_same_file}
-use Rattle.law_births.specs.pg_edges.declared.key.Key.TheVariants as key
-use Rattle.law_births.specs.pg_entries.declared.cell.Cell.{Cell}
-use Rattle.law_births.specs.pg_entries.declared.cell.Cell.TheVariants as cell
-use Rattle.law_births.specs.pg_event.declared.event.Event.{Event}
-use Rattle.law_births.specs.pg_intent.declared.intent.Intent.TheVariants as intent
+use Rattle.pg_run.specs.pg_base.declared.id.FileId.{FileId}
+use Rattle.pg_run.specs.pg_base.Id.{is_same_file}
+use Rattle.pg_run.specs.pg_edges.declared.key.Key.TheVariants as key
+use Rattle.pg_run.specs.pg_entries.declared.cell.Cell.{Cell}
+use Rattle.pg_run.specs.pg_entries.declared.cell.Cell.TheVariants as cell
+use Rattle.pg_run.specs.pg_event.declared.event.Event.{Event}
+use Rattle.pg_run.specs.pg_intent.declared.intent.Intent.TheVariants as intent
 use Rattle.theory_leaving.specs.Protocol.{Protocol, Word}
 use Rattle.theory_leaving.specs.Protocol.Word.{Gone, Bye, ByeOk, LeaveOk, Other}
 use Rattle.theory_leaving.specs.Rule.{Turn}
-use Rattle.law_births.specs.pg_msg.declared.message.Message.{Message}
-use Rattle.law_births.specs.pg_msg.declared.message.Message.TheVariants as message
-use Rattle.law_births.specs.pg_msg.declared.message.Sent.{Sent}
-use Rattle.law_births.specs.pg_register.declared.flag.Flag.{Flag}
-use Rattle.law_births.specs.pg_register.Flag.{is_removed}
-use Rattle.law_births.specs.pg_server.declared.input.Input.{Input}
-use Rattle.law_births.specs.pg_server.declared.input.Input.TheVariants as input
-use Rattle.law_births.specs.pg_server.Local.{effect}
-use Rattle.law_births.specs.pg_store.Seen.{removed_of}
-use Rattle.law_births.specs.pg_store.Together.{birth_at}
-use Rattle.law_births.specs.pg_run.Journal.{mail}
-use Rattle.law_births.specs.pg_run.Laws.{store_after}
-use Rattle.law_births.specs.pg_run.Run.{Taking, run}
+use Rattle.pg_run.specs.pg_msg.declared.message.Message.{Message}
+use Rattle.pg_run.specs.pg_msg.declared.message.Message.TheVariants as message
+use Rattle.pg_run.specs.pg_msg.declared.message.Sent.{Sent}
+use Rattle.pg_run.specs.pg_register.declared.flag.Flag.{Flag}
+use Rattle.pg_run.specs.pg_register.Flag.{is_removed}
+use Rattle.pg_run.specs.pg_server.declared.input.Input.{Input}
+use Rattle.pg_run.specs.pg_server.declared.input.Input.TheVariants as input
+use Rattle.pg_run.specs.pg_server.Local.{effect}
+use Rattle.pg_run.specs.pg_store.Seen.{removed_of}
+use Rattle.pg_run.specs.pg_store.Together.{birth_at}
+use Rattle.pg_run.specs.Journal.{mail}
+use Rattle.pg_run.specs.Laws.{store_after}
+use Rattle.pg_run.specs.Run.{Taking, run}
 use Rattle.law_leaving.specs.Gone.{WentAs}
 use Rattle.law_leaving.specs.Taken.{Site, site, taking}
 

@@ -1,19 +1,19 @@
 -- What a server's replicas took of the cells of a thing.
 use Rattle.std.specs.Prelude.{ℕ, ◌≡◌, true, Contains, List}
-use Rattle.law_births.specs.pg_base.declared.id.FileId.{FileId}
-use Rattle.law_births.specs.pg_entries.declared.cell.Cell.{Cell}
-use Rattle.law_births.specs.pg_entries.declared.cell.Cell.TheVariants as cell
-use Rattle.law_births.specs.theory_flood.Protocol.{Protocol}
-use Rattle.law_births.specs.theory_flood.Taken.{taking as with_taken}
-use Rattle.law_births.specs.pg_house.Passing.{is_update}
-use Rattle.law_births.specs.pg_msg.declared.message.Sent.{Sent}
-use Rattle.law_births.specs.pg_register.declared.flag.Flag.{Flag}
-use Rattle.law_births.specs.pg_register.declared.place.Place.{Place}
-use Rattle.law_births.specs.pg_store.declared.store.Store.{Store}
-use Rattle.law_births.specs.theory_flood_pieces.Seen.{cells}
-use Rattle.law_births.specs.pg_run.Run.{World}
-use Rattle.law_births.specs.pg_run.Took.{Take, Taker, flags_taken, places_taken}
-use Rattle.law_births.specs.pg_run.Took.Taker.{InDir, Itself}
+use Rattle.pg_run.specs.pg_base.declared.id.FileId.{FileId}
+use Rattle.pg_run.specs.pg_entries.declared.cell.Cell.{Cell}
+use Rattle.pg_run.specs.pg_entries.declared.cell.Cell.TheVariants as cell
+use Rattle.pg_run.specs.theory_flood.Protocol.{Protocol}
+use Rattle.pg_run.specs.theory_flood.Taken.{taking as with_taken}
+use Rattle.pg_run.specs.pg_house.Passing.{is_update}
+use Rattle.pg_run.specs.pg_msg.declared.message.Sent.{Sent}
+use Rattle.pg_run.specs.pg_register.declared.flag.Flag.{Flag}
+use Rattle.pg_run.specs.pg_register.declared.place.Place.{Place}
+use Rattle.pg_run.specs.pg_store.declared.store.Store.{Store}
+use Rattle.pg_run.specs.theory_flood_pieces.Seen.{cells}
+use Rattle.pg_run.specs.Run.{World}
+use Rattle.pg_run.specs.Took.{Take, Taker, flags_taken, places_taken}
+use Rattle.pg_run.specs.Took.Taker.{InDir, Itself}
 
 -- a place was taken, if it is one: the blank place is no update
 abbrev pub IsPlaceTaken : Taker → FileId → List Take → Place → Type 0

@@ -4,7 +4,7 @@
 ghost use Rattle.std.specs.Prelude.{ℕ};
 ghost use Rattle.law_leaving.specs.Laws.{DropsLeaveAll};
 ghost use Rattle.law_leaving.specs.Premises.{StandOn, StatesAreCited};
-ghost use Rattle.law_births.specs.pg_run.Leaving.{ByesAreOver, DropsAreSafe, GiversHaveEachCell, HeardEdgesAreKnown, WhatWentIsOver};
+ghost use Rattle.pg_run.specs.Leaving.{ByesAreOver, DropsAreSafe, GiversHaveEachCell, HeardEdgesAreKnown, WhatWentIsOver};
 
 /// What went is over; and so is each birth of which a Bye was sent, or heard.
 pub fn what_went_is_over()

@@ -9,26 +9,26 @@ use Rattle.pg_call.specs.declared.call.Call.{Call}
 use Rattle.pg_call.specs.declared.call.Call.TheVariants as call
 use Rattle.pg_call.specs.declared.reply.Reply.{Reply}
 use Rattle.pg_call.specs.declared.reply.Reply.TheVariants as reply
-use Rattle.pg_calls.specs.Bodies.{change, change_file, shown_part, when_fit}
-use Rattle.pg_calls.specs.Calls.{do_call}
-use Rattle.pg_calls.specs.Demoting.{demoted_at}
-use Rattle.pg_calls.specs.Dropping.{clean_gold, dropped_at, leaving}
-use Rattle.pg_calls.specs.Forgetting.{lost_at}
-use Rattle.pg_calls.specs.GivingUp.{removal_at}
-use Rattle.pg_calls.specs.Looks.{counts, freshness, listing, page, stat_of}
-use Rattle.pg_calls.specs.Naming.{next_id}
-use Rattle.pg_checks.specs.Answer.{Answer, answered, deny, replied, told}
-use Rattle.pg_checks.specs.Checks.{dir_at, empty_dir_at, file_at, in_time, move_of, new_name, target_at}
+use Rattle.pg_server.specs.pg_calls.Bodies.{change, change_file, shown_part, when_fit}
+use Rattle.pg_server.specs.pg_calls.Calls.{do_call}
+use Rattle.pg_server.specs.pg_calls.Demoting.{demoted_at}
+use Rattle.pg_server.specs.pg_calls.Dropping.{clean_gold, dropped_at, leaving}
+use Rattle.pg_server.specs.pg_calls.Forgetting.{lost_at}
+use Rattle.pg_server.specs.pg_calls.GivingUp.{removal_at}
+use Rattle.pg_server.specs.pg_calls.Looks.{counts, freshness, listing, page, stat_of}
+use Rattle.pg_server.specs.pg_calls.Naming.{next_id}
+use Rattle.pg_server.specs.pg_checks.Answer.{Answer, answered, deny, replied, told}
+use Rattle.pg_server.specs.pg_checks.Checks.{dir_at, empty_dir_at, file_at, in_time, move_of, new_name, target_at}
 use Rattle.pg_content.specs.Content.{shown_bytes}
-use Rattle.pg_lookup.specs.declared.paths.LookupError.{LookupError}
-use Rattle.pg_lookup.specs.declared.paths.LookupError.TheVariants as stop
-use Rattle.pg_msg.specs.declared.work.Work.{Work}
-use Rattle.pg_names.specs.Names.{InodeValue, NamesValue, known, or_blank, own_of, own_or_blank}
+use Rattle.pg_server.specs.pg_checks.pg_lookup.declared.paths.LookupError.{LookupError}
+use Rattle.pg_server.specs.pg_checks.pg_lookup.declared.paths.LookupError.TheVariants as stop
+use Rattle.pg_server.specs.pg_pieces.pg_msg.declared.work.Work.{Work}
+use Rattle.pg_server.specs.pg_pieces.pg_names.Names.{InodeValue, NamesValue, known, or_blank, own_of, own_or_blank}
 use Rattle.pg_patch.specs.Ranges.{RangesValue, cut_to, written}
 use Rattle.pg_register.specs.declared.flag.Flag.{Flag}
 use Rattle.pg_register.specs.declared.place.Place.{Place}
-use Rattle.pg_store.specs.declared.store.Store.{Store}
-use Rattle.pg_store.specs.Store.{content_of}
+use Rattle.pg_server.specs.pg_pieces.pg_store.declared.store.Store.{Store}
+use Rattle.pg_server.specs.pg_pieces.pg_store.Store.{content_of}
 use Rattle.pg_words.specs.PlaceWords.{IsPlace}
 use Rattle.law_spelled.specs.Messages.{HasPlaceWidths}
 use Rattle.law_spelled.specs.Stores.{FitsNames, FitsPlace}

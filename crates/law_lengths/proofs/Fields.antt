@@ -14,9 +14,9 @@ use Rattle.pg_codec.specs.Spelling.{file_bytes, flag_bytes, number_bytes, stamp_
 use Rattle.pg_edges.specs.declared.key.Key.{Key}
 use Rattle.pg_edges.specs.declared.key.Key.TheVariants as key
 use Rattle.pg_entries.specs.declared.entry.Entry.{Entry}
-use Rattle.pg_msg.specs.declared.message.Ask.{Ask}
-use Rattle.pg_msg.specs.declared.message.Ask.TheVariants as ask
-use Rattle.pg_msg.specs.declared.message.Ends.{Ends}
+use Rattle.pg_server.specs.pg_pieces.pg_msg.declared.message.Ask.{Ask}
+use Rattle.pg_server.specs.pg_pieces.pg_msg.declared.message.Ask.TheVariants as ask
+use Rattle.pg_server.specs.pg_pieces.pg_msg.declared.message.Ends.{Ends}
 use Rattle.pg_packet_write.proofs.Lengths.{name_short}
 use Rattle.pg_packet_write.specs.Fields.{ask_bytes, counted, ends_bytes, entry_bytes, gold_bytes, golds_bytes, head_bytes, key_bytes, known_bytes, listed, part_bytes, place_bytes, policy_bytes, ranges_bytes, stamps_bytes, vector_bytes}
 use Rattle.pg_packet_write.specs.Fits.{FitGolds, FitStamps, FitsEntry, FitsHead, FitsRanges, FitsVector, laid}

@@ -5,12 +5,12 @@ use Rattle.pg_base.specs.Version.{VersionValue}
 use Rattle.pg_entries.specs.declared.cell.Cell.{Cell}
 use Rattle.pg_entries.specs.declared.cell.Cell.TheVariants as cell
 use Rattle.pg_entries.specs.declared.entry.Entry.{Entry}
-use Rattle.pg_msg.specs.declared.message.Delta.{Delta}
-use Rattle.pg_msg.specs.declared.message.Granted.{Granted}
-use Rattle.pg_msg.specs.declared.message.Message.{Message}
-use Rattle.pg_msg.specs.declared.message.Message.TheVariants as message
-use Rattle.pg_msg.specs.declared.message.Piece.{Piece}
-use Rattle.pg_msg.specs.declared.message.Wanted.{Wanted}
+use Rattle.pg_server.specs.pg_pieces.pg_msg.declared.message.Delta.{Delta}
+use Rattle.pg_server.specs.pg_pieces.pg_msg.declared.message.Granted.{Granted}
+use Rattle.pg_server.specs.pg_pieces.pg_msg.declared.message.Message.{Message}
+use Rattle.pg_server.specs.pg_pieces.pg_msg.declared.message.Message.TheVariants as message
+use Rattle.pg_server.specs.pg_pieces.pg_msg.declared.message.Piece.{Piece}
+use Rattle.pg_server.specs.pg_pieces.pg_msg.declared.message.Wanted.{Wanted}
 use Rattle.pg_packet_write.specs.declared.datagram.Content.TheVariants as content
 use Rattle.pg_packet_write.specs.DatagramValue.{DatagramValue}
 use Rattle.pg_packet_write.specs.Datagrams.{content_bytes, kind_of, mark, packet_bytes}

@@ -8,12 +8,12 @@ use Rattle.std.proofs.lemmas.List.{length-append, length-take}
 use Rattle.std.proofs.lemmas.List.Elements.{All-cons, All-drop, All-head, All-nil, All-tail, All-take, recursion_from_All}
 use Rattle.pg_base.specs.declared.id.FileId.{FileId}
 use Rattle.pg_base.specs.Id.{Fits}
-use Rattle.pg_calls.specs.Looks.{listing, page}
+use Rattle.pg_server.specs.pg_calls.Looks.{listing, page}
 use Rattle.pg_entries.specs.declared.entry.Entry.{Entry}
 use Rattle.pg_entries.specs.Entry.{is_listed}
 use Rattle.pg_entries.specs.Shown.{insert_row, is_hidden, row_cmp, row_of, rows_in_order, rows_of}
-use Rattle.pg_house.proofs.Truths.{chosen}
-use Rattle.pg_names.specs.Names.{InodeValue, NamesValue, known}
+use Rattle.pg_server.proofs.pg_pieces.pg_house.Truths.{chosen}
+use Rattle.pg_server.specs.pg_pieces.pg_names.Names.{InodeValue, NamesValue, known}
 use Rattle.pg_packet_write.proofs.Lengths.{name_short}
 use Rattle.pg_packet_write.specs.Calls.{FitsText}
 use Rattle.pg_path.specs.declared.row.Row.{Row}

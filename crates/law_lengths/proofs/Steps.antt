@@ -5,12 +5,12 @@ use Rattle.std.proofs.lemmas.Option.{none-some, same_Some}
 use Rattle.pg_call.specs.declared.refusal.Refusal.TheVariants.{ClockEnd}
 use Rattle.pg_call.specs.declared.reply.Reply.{Reply}
 use Rattle.pg_call.specs.declared.reply.Reply.TheVariants as reply
-use Rattle.pg_msg.specs.Work.{new_work}
+use Rattle.pg_server.specs.pg_pieces.pg_msg.Work.{new_work}
 use Rattle.pg_server.specs.declared.input.Input.{Input}
 use Rattle.pg_server.specs.declared.input.Input.TheVariants as input
 use Rattle.pg_server.specs.Local.{closed, effect_of, finished, first_effect, reply_to, takes_effect}
-use Rattle.pg_store.specs.declared.store.Store.{Store}
-use Rattle.pg_store.specs.Store.{is_before_clock_end, new_store}
+use Rattle.pg_server.specs.pg_pieces.pg_store.declared.store.Store.{Store}
+use Rattle.pg_server.specs.pg_pieces.pg_store.Store.{is_before_clock_end, new_store}
 use Rattle.law_spelled.specs.Laws.{NewFits, StepFits}
 use Rattle.law_spelled.specs.Messages.{FitsInput}
 use Rattle.law_spelled.specs.Stores.{FitsStore}

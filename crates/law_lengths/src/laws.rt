@@ -1,6 +1,6 @@
 //! What holds of the packets of any run. Each law is a clause of a function that does nothing.
 
-ghost use Rattle.pg_msg.specs.declared.message.Message.{Message};
+ghost use Rattle.pg_server.specs.pg_pieces.pg_msg.declared.message.Message.{Message};
 ghost use Rattle.pg_packet_write.specs.Messages.{FitsMessage};
 ghost use Rattle.pg_packet_write.specs.declared.datagram.Content.TheVariants as content;
 ghost use Rattle.law_lengths.specs.Laws.{RunSendsPackets, StepSendsPackets};

@@ -4,30 +4,30 @@ use Rattle.std.specs.List.{filter}
 use Rattle.std.proofs.lemmas.Bool.{and_parts, false≢true}
 use Rattle.std.proofs.lemmas.Bool.Decides.{Decides-eqb, nat_tests}
 use Rattle.std.proofs.lemmas.List.Elements.{All-head, All-tail}
-use Rattle.law_births.specs.pg_base.declared.id.FileId.{FileId}
-use Rattle.law_births.specs.pg_edges.declared.edge.Edge.{Edge}
-use Rattle.law_births.specs.pg_msg.declared.message.Ask.TheVariants as ask
-use Rattle.law_births.specs.pg_msg.declared.message.Ends.{Ends}
-use Rattle.law_births.specs.pg_msg.declared.message.Message.{Message}
-use Rattle.law_births.specs.pg_msg.declared.message.Message.TheVariants as message
-use Rattle.law_births.specs.pg_msg.declared.work.Work.{Work}
-use Rattle.law_births.specs.pg_msg.Work.{new_work}
-use Rattle.law_births.specs.pg_replica.declared.replica.Replica.{Replica}
-use Rattle.law_births.specs.pg_replica.Replicas.{is_of_birth}
-use Rattle.law_births.specs.pg_store.declared.store.Store.{Store}
-use Rattle.law_births.specs.pg_store.Births.{has_birth}
-use Rattle.law_births.specs.pg_store.Links.{knows_later, link}
-use Rattle.law_births.specs.pg_store.Seen.{server_of}
-use Rattle.law_births.specs.pg_store.Store.{is_full, is_held, replica_at, replica_of}
-use Rattle.law_births.specs.pg_pieces.declared.accepting.EdgeUse.TheVariants as manner
-use Rattle.law_births.specs.pg_pieces.Accepting.{accept, is_accepted, is_current, link_peer, meets}
-use Rattle.law_births.specs.pg_pieces.Done.{Done, idle}
-use Rattle.law_births.specs.pg_pieces.Posting.{reply}
-use Rattle.law_births.specs.pg_graph.Seeking.{answered_seek, seek}
-use Rattle.law_births.specs.pg_graph.Walks.{goes_on, is_onward, meet_origin, onward, walk, walk_on, walked}
-use Rattle.law_births.specs.pg_run.pg_repair.Fetching.{answered_fetch, fetch}
-use Rattle.law_births.specs.pg_server.Local.{receive}
-use Rattle.law_births.proofs.pg_run.pg_calls.Walked.{full_held}
+use Rattle.pg_run.specs.pg_base.declared.id.FileId.{FileId}
+use Rattle.pg_run.specs.pg_edges.declared.edge.Edge.{Edge}
+use Rattle.pg_run.specs.pg_msg.declared.message.Ask.TheVariants as ask
+use Rattle.pg_run.specs.pg_msg.declared.message.Ends.{Ends}
+use Rattle.pg_run.specs.pg_msg.declared.message.Message.{Message}
+use Rattle.pg_run.specs.pg_msg.declared.message.Message.TheVariants as message
+use Rattle.pg_run.specs.pg_msg.declared.work.Work.{Work}
+use Rattle.pg_run.specs.pg_msg.Work.{new_work}
+use Rattle.pg_run.specs.pg_replica.declared.replica.Replica.{Replica}
+use Rattle.pg_run.specs.pg_replica.Replicas.{is_of_birth}
+use Rattle.pg_run.specs.pg_store.declared.store.Store.{Store}
+use Rattle.pg_run.specs.pg_store.Births.{has_birth}
+use Rattle.pg_run.specs.pg_store.Links.{knows_later, link}
+use Rattle.pg_run.specs.pg_store.Seen.{server_of}
+use Rattle.pg_run.specs.pg_store.Store.{is_full, is_held, replica_at, replica_of}
+use Rattle.pg_run.specs.pg_pieces.declared.accepting.EdgeUse.TheVariants as manner
+use Rattle.pg_run.specs.pg_pieces.Accepting.{accept, is_accepted, is_current, link_peer, meets}
+use Rattle.pg_run.specs.pg_pieces.Done.{Done, idle}
+use Rattle.pg_run.specs.pg_pieces.Posting.{reply}
+use Rattle.pg_run.specs.pg_graph.Seeking.{answered_seek, seek}
+use Rattle.pg_run.specs.pg_graph.Walks.{goes_on, is_onward, meet_origin, onward, walk, walk_on, walked}
+use Rattle.pg_run.specs.pg_repair.Fetching.{answered_fetch, fetch}
+use Rattle.pg_run.specs.pg_server.Local.{receive}
+use Rattle.pg_run.proofs.pg_calls.Walked.{full_held}
 use Rattle.law_births.proofs.Effects.{Lists}
 use Rattle.law_births.proofs.Has.{IsAlone}
 use Rattle.law_links.proofs.Linked.{link_lists, within}

@@ -2,20 +2,20 @@
 use Rattle.std.proofs.Common.{ℕ, ◌≡◌, Bool, true, false, cond, List, Option, None, Some, refl, sym, ap, subst, ◌∙◌, eq-eqb}
 use Rattle.std.specs.Option.{option_map}
 use Rattle.std.proofs.lemmas.Bool.{false≢true}
-use Rattle.law_births.specs.pg_edges.Edges.{is_listed}
-use Rattle.law_births.specs.pg_msg.declared.message.Packet.{Packet}
-use Rattle.law_births.specs.pg_msg.Work.{new_work}
-use Rattle.law_births.specs.pg_replica.declared.replica.Replica.{Replica}
-use Rattle.law_births.specs.pg_store.declared.store.Store.{Store}
-use Rattle.law_births.specs.pg_store.Links.{knows_later}
-use Rattle.law_births.specs.pg_store.Store.{replica_at}
-use Rattle.law_births.specs.pg_pieces.Done.{Done, idle}
-use Rattle.law_births.specs.pg_server.declared.input.Input.TheVariants as input
-use Rattle.law_births.specs.pg_server.Local.{Effect, closed, effect, finished, first_effect, intended, is_heard, receive, settled}
-use Rattle.law_births.specs.pg_run.Intending.{IntentionsAreInOrder}
-use Rattle.law_births.specs.pg_run.Run.{Step, Taking, next, run}
+use Rattle.pg_run.specs.pg_edges.Edges.{is_listed}
+use Rattle.pg_run.specs.pg_msg.declared.message.Packet.{Packet}
+use Rattle.pg_run.specs.pg_msg.Work.{new_work}
+use Rattle.pg_run.specs.pg_replica.declared.replica.Replica.{Replica}
+use Rattle.pg_run.specs.pg_store.declared.store.Store.{Store}
+use Rattle.pg_run.specs.pg_store.Links.{knows_later}
+use Rattle.pg_run.specs.pg_store.Store.{replica_at}
+use Rattle.pg_run.specs.pg_pieces.Done.{Done, idle}
+use Rattle.pg_run.specs.pg_server.declared.input.Input.TheVariants as input
+use Rattle.pg_run.specs.pg_server.Local.{Effect, closed, effect, finished, first_effect, intended, is_heard, receive, settled}
+use Rattle.pg_run.specs.Intending.{IntentionsAreInOrder}
+use Rattle.pg_run.specs.Run.{Step, Taking, next, run}
 use Rattle.law_births.specs.Premises.{FillsAlwaysStand, NextIdsAreFree}
-use Rattle.law_births.proofs.pg_run.Frame.{acts_is, next_is}
+use Rattle.pg_run.proofs.Frame.{acts_is, next_is}
 use Rattle.law_births.proofs.Alone.{alone_always}
 use Rattle.law_births.proofs.Effects.{Lists, intended_shapes, lists_on}
 use Rattle.law_births.proofs.Ends.{born_to, ends, listed_born}

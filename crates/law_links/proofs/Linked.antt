@@ -1,21 +1,21 @@
 -- A birth of a peer is linked to what is held: it is listed from then on.
 use Rattle.std.proofs.Common.{ℕ, ◌≡◌, ◌&&◌, Bool, true, false, cond, not, Option, None, Some, is_some, refl, sym, ap, subst, ◌∙◌, eq-eqb}
 use Rattle.std.proofs.lemmas.Bool.{false≢true}
-use Rattle.law_births.specs.pg_base.declared.id.FileId.{FileId}
-use Rattle.law_births.specs.pg_base.declared.stamp.Stamp.{Stamp}
-use Rattle.law_births.specs.pg_msg.declared.message.Ends.{Ends}
-use Rattle.law_births.specs.pg_msg.declared.work.Work.{Work}
-use Rattle.law_births.specs.pg_msg.Work.{new_work}
-use Rattle.law_births.specs.pg_replica.declared.replica.Replica.{Replica}
-use Rattle.law_births.specs.pg_replica.Replicas.{is_of_birth, or_nothing}
-use Rattle.law_births.specs.pg_store.declared.store.Store.{Store}
-use Rattle.law_births.specs.pg_store.Births.{birth_of, has_birth}
-use Rattle.law_births.specs.pg_store.Links.{knows_later, link}
-use Rattle.law_births.specs.pg_store.Store.{is_held, replica_at}
-use Rattle.law_births.specs.pg_pieces.declared.accepting.EdgeUse.TheVariants as manner
-use Rattle.law_births.specs.pg_pieces.Accepting.{accept, is_accepted, is_current, link_peer, with_gone}
-use Rattle.law_births.specs.pg_pieces.Done.{Done, idle}
-use Rattle.law_births.specs.pg_graph.Leaving.{leave, leave_given}
+use Rattle.pg_run.specs.pg_base.declared.id.FileId.{FileId}
+use Rattle.pg_run.specs.pg_base.declared.stamp.Stamp.{Stamp}
+use Rattle.pg_run.specs.pg_msg.declared.message.Ends.{Ends}
+use Rattle.pg_run.specs.pg_msg.declared.work.Work.{Work}
+use Rattle.pg_run.specs.pg_msg.Work.{new_work}
+use Rattle.pg_run.specs.pg_replica.declared.replica.Replica.{Replica}
+use Rattle.pg_run.specs.pg_replica.Replicas.{is_of_birth, or_nothing}
+use Rattle.pg_run.specs.pg_store.declared.store.Store.{Store}
+use Rattle.pg_run.specs.pg_store.Births.{birth_of, has_birth}
+use Rattle.pg_run.specs.pg_store.Links.{knows_later, link}
+use Rattle.pg_run.specs.pg_store.Store.{is_held, replica_at}
+use Rattle.pg_run.specs.pg_pieces.declared.accepting.EdgeUse.TheVariants as manner
+use Rattle.pg_run.specs.pg_pieces.Accepting.{accept, is_accepted, is_current, link_peer, with_gone}
+use Rattle.pg_run.specs.pg_pieces.Done.{Done, idle}
+use Rattle.pg_run.specs.pg_graph.Leaving.{leave, leave_given}
 use Rattle.law_births.proofs.Effects.{Lists, leave_listed}
 use Rattle.law_births.proofs.Has.{IsAlone}
 

@@ -3,28 +3,28 @@ use Rattle.std.proofs.Common.{ℕ, ◌≡◌, ◌≢◌, ◌≤◌, ◌==◌, �
 use Rattle.std.specs.Prelude.{Contains}
 use Rattle.std.specs.List.{IsAmong}
 use Rattle.std.proofs.lemmas.Bool.{and_from, le-ltb, not_from_false}
-use Rattle.law_births.specs.pg_edges.declared.edge.Edge.{Edge}
-use Rattle.law_births.specs.pg_edges.Edges.{AscendFrom, edge_to, is_listed, keys_if_born, peers}
-use Rattle.law_births.proofs.pg_content.Members.{all_among}
-use Rattle.law_births.specs.pg_msg.declared.message.Ends.{Ends}
-use Rattle.law_births.specs.pg_msg.declared.message.Message.{Message}
-use Rattle.law_births.specs.pg_msg.declared.message.Message.TheVariants as message
-use Rattle.law_births.specs.pg_replica.declared.replica.Replica.{Replica}
-use Rattle.law_births.specs.pg_replica.Replica.{has_edge, is_born_later}
-use Rattle.law_births.specs.pg_replica.Replicas.{is_of_birth, or_nothing}
-use Rattle.law_births.specs.pg_store.declared.store.Store.{Store}
-use Rattle.law_births.specs.pg_store.Births.{has_birth}
-use Rattle.law_births.specs.pg_store.Links.{knows_later}
-use Rattle.law_births.specs.pg_store.Seen.{server_of}
-use Rattle.law_births.specs.pg_store.Store.{is_full, is_held, replica_at, replica_of}
-use Rattle.law_births.specs.pg_pieces.declared.accepting.EdgeUse.TheVariants as manner
-use Rattle.law_births.specs.pg_pieces.Accepting.{is_accepted, is_current, meets}
-use Rattle.law_births.specs.pg_pieces.Done.{link_of}
-use Rattle.law_births.specs.theory_flood_pieces.Whole.{AreEdges, IsWhole}
-use Rattle.law_births.proofs.theory_flood_pieces.Choices.{found_replica}
-use Rattle.law_births.proofs.theory_flood_pieces.Found.{edges_found}
-use Rattle.law_births.proofs.pg_run.Found.{listed_edge}
-use Rattle.law_births.proofs.pg_run.Lists.{contained_among}
+use Rattle.pg_run.specs.pg_edges.declared.edge.Edge.{Edge}
+use Rattle.pg_run.specs.pg_edges.Edges.{AscendFrom, edge_to, is_listed, keys_if_born, peers}
+use Rattle.pg_run.proofs.pg_content.Members.{all_among}
+use Rattle.pg_run.specs.pg_msg.declared.message.Ends.{Ends}
+use Rattle.pg_run.specs.pg_msg.declared.message.Message.{Message}
+use Rattle.pg_run.specs.pg_msg.declared.message.Message.TheVariants as message
+use Rattle.pg_run.specs.pg_replica.declared.replica.Replica.{Replica}
+use Rattle.pg_run.specs.pg_replica.Replica.{has_edge, is_born_later}
+use Rattle.pg_run.specs.pg_replica.Replicas.{is_of_birth, or_nothing}
+use Rattle.pg_run.specs.pg_store.declared.store.Store.{Store}
+use Rattle.pg_run.specs.pg_store.Births.{has_birth}
+use Rattle.pg_run.specs.pg_store.Links.{knows_later}
+use Rattle.pg_run.specs.pg_store.Seen.{server_of}
+use Rattle.pg_run.specs.pg_store.Store.{is_full, is_held, replica_at, replica_of}
+use Rattle.pg_run.specs.pg_pieces.declared.accepting.EdgeUse.TheVariants as manner
+use Rattle.pg_run.specs.pg_pieces.Accepting.{is_accepted, is_current, meets}
+use Rattle.pg_run.specs.pg_pieces.Done.{link_of}
+use Rattle.pg_run.specs.theory_flood_pieces.Whole.{AreEdges, IsWhole}
+use Rattle.pg_run.proofs.theory_flood_pieces.Choices.{found_replica}
+use Rattle.pg_run.proofs.theory_flood_pieces.Found.{edges_found}
+use Rattle.pg_run.proofs.Found.{listed_edge}
+use Rattle.pg_run.proofs.Lists.{contained_among}
 use Rattle.law_links.specs.Links.{ComesAlong, IsLinkedAt, IsLinkedBy, IsWalkEnd, LinkTo, NoneIsLater}
 
 -- what a message links, by the tests of the definitions

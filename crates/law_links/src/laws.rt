@@ -2,7 +2,7 @@
 //! does nothing.
 
 ghost use Rattle.std.specs.Prelude.{ℕ};
-ghost use Rattle.law_births.specs.pg_run.Intending.{IntentionsAreInOrder};
+ghost use Rattle.pg_run.specs.Intending.{IntentionsAreInOrder};
 ghost use Rattle.law_links.specs.Links.{AsksLinkTheAsker};
 
 /// A server that hears a Fetch of what it holds full, or a Seek of what it holds, lists the sender

@@ -1,19 +1,19 @@
 -- Stores that directories see alike: places, cells and Patches are the same, and Confirms go on. A
 -- first part of a step may begin and end with such a change.
 use Rattle.std.proofs.Common.{ℕ, ◌≡◌, ◌<◌, ◌≤◌, List, length, refl, sym, ap, subst, ◌∙◌, inl, inr}
-use Rattle.law_places.specs.pg_base.declared.id.FileId.{FileId}
-use Rattle.law_places.specs.pg_base.declared.stamp.Stamp.{Stamp}
-use Rattle.law_places.specs.pg_house.Holding.{waits}
-use Rattle.law_places.specs.pg_intent.declared.key.IntentKey.TheVariants as intent_key
-use Rattle.law_places.specs.pg_intent.Intents.{intent_at, stands}
+use Rattle.pg_run.specs.pg_base.declared.id.FileId.{FileId}
+use Rattle.pg_run.specs.pg_base.declared.stamp.Stamp.{Stamp}
+use Rattle.pg_run.specs.pg_house.Holding.{waits}
+use Rattle.pg_run.specs.pg_intent.declared.key.IntentKey.TheVariants as intent_key
+use Rattle.pg_run.specs.pg_intent.Intents.{intent_at, stands}
 use Rattle.theory_listing.specs.Protocol.{AtLeast, Lists}
 use Rattle.theory_listing.specs.Parts.{FirstPart, NoneLater}
 use Rattle.theory_listing.specs.Rule.{Holds, IsToldAt}
 use Rattle.theory_listing.proofs.Handlers.{calm_first}
-use Rattle.law_places.specs.pg_names.Names.{cell_at, own_at}
-use Rattle.law_places.specs.pg_register.declared.place.Place.{Place}
-use Rattle.law_places.specs.pg_store.declared.store.Store.{Store}
-use Rattle.law_places.specs.pg_store.Seen.{removed_of, view_of}
+use Rattle.pg_run.specs.pg_names.Names.{cell_at, own_at}
+use Rattle.pg_run.specs.pg_register.declared.place.Place.{Place}
+use Rattle.pg_run.specs.pg_store.declared.store.Store.{Store}
+use Rattle.pg_run.specs.pg_store.Seen.{removed_of, view_of}
 use Rattle.theory_listing_house.specs.Listing.{cell_place, own_place}
 use Rattle.theory_listing_house.proofs.Seen.{own_is}
 use Rattle.law_listings.specs.Letters.{Letter, patch_place}

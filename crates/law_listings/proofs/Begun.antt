@@ -2,30 +2,30 @@
 use Rattle.std.proofs.Common.{ℕ, ◌≡◌, ◌&&◌, Bool, true, false, cond, List, [], ◌∷◌, ◌++◌, Option, None, Some, is_some, refl, sym, ap, subst, ◌∙◌, inl, inr, ◌⊎◌}
 use Rattle.std.proofs.lemmas.Bool.{and_parts, false≢true}
 use Rattle.std.proofs.lemmas.Option.{none-some, same_Some}
-use Rattle.law_places.specs.pg_base.declared.id.FileId.{FileId}
-use Rattle.law_places.specs.pg_base.declared.policy.Policy.{Policy}
-use Rattle.law_places.specs.pg_base.Id.{is_same_file}
-use Rattle.law_places.proofs.pg_base.Orders.{is_same_file-true}
-use Rattle.law_places.specs.pg_entries.declared.entry.Entry.{Entry}
-use Rattle.law_places.proofs.pg_house.Truths.{bool_cases}
-use Rattle.law_places.specs.pg_intent.declared.intent.Intent.{Intent}
-use Rattle.law_places.specs.pg_intent.declared.intent.Intent.TheVariants as intent
-use Rattle.law_places.specs.pg_intent.declared.key.IntentKey.{IntentKey}
-use Rattle.law_places.specs.pg_intent.declared.key.IntentKey.TheVariants as intent_key
-use Rattle.law_places.specs.pg_intent.Intents.{ended, intent_at, stands}
-use Rattle.law_places.specs.pg_intent.Key.{is_same_key}
-use Rattle.law_places.proofs.pg_intent.Found.{ended_found, stands_is}
+use Rattle.pg_run.specs.pg_base.declared.id.FileId.{FileId}
+use Rattle.pg_run.specs.pg_base.declared.policy.Policy.{Policy}
+use Rattle.pg_run.specs.pg_base.Id.{is_same_file}
+use Rattle.pg_run.proofs.pg_base.Orders.{is_same_file-true}
+use Rattle.pg_run.specs.pg_entries.declared.entry.Entry.{Entry}
+use Rattle.pg_run.proofs.pg_house.Truths.{bool_cases}
+use Rattle.pg_run.specs.pg_intent.declared.intent.Intent.{Intent}
+use Rattle.pg_run.specs.pg_intent.declared.intent.Intent.TheVariants as intent
+use Rattle.pg_run.specs.pg_intent.declared.key.IntentKey.{IntentKey}
+use Rattle.pg_run.specs.pg_intent.declared.key.IntentKey.TheVariants as intent_key
+use Rattle.pg_run.specs.pg_intent.Intents.{ended, intent_at, stands}
+use Rattle.pg_run.specs.pg_intent.Key.{is_same_key}
+use Rattle.pg_run.proofs.pg_intent.Found.{ended_found, stands_is}
 use Rattle.theory_listing.specs.Protocol.{AtLeast, AtMost}
 use Rattle.theory_listing.specs.Rule.{IsToldAt}
-use Rattle.law_places.specs.pg_names.declared.attributes.Attributes.{Attributes}
-use Rattle.law_places.specs.pg_names.Names.{InodeValue, entry_in, known, own_of}
-use Rattle.law_places.proofs.pg_names.Holding.{begun_cells, begun_other, begun_same}
-use Rattle.law_places.specs.pg_register.declared.place.Place.{Place}
+use Rattle.pg_run.specs.pg_names.declared.attributes.Attributes.{Attributes}
+use Rattle.pg_run.specs.pg_names.Names.{InodeValue, entry_in, known, own_of}
+use Rattle.pg_run.proofs.pg_names.Holding.{begun_cells, begun_other, begun_same}
+use Rattle.pg_run.specs.pg_register.declared.place.Place.{Place}
 use Rattle.theory_listing_house.specs.Listing.{cell_place, own_place}
-use Rattle.law_places.specs.pg_store.declared.store.Store.{Store}
-use Rattle.law_places.specs.pg_store.Beginning.{begin as begin_replica, patch_key, patches_of, put_new, take_patch, take_patches, take_told, take_told_in, with_intents}
-use Rattle.law_places.specs.pg_store.Seen.{removed_of}
-use Rattle.law_places.specs.pg_store.Store.{is_held, take_entry}
+use Rattle.pg_run.specs.pg_store.declared.store.Store.{Store}
+use Rattle.pg_run.specs.pg_store.Beginning.{begin as begin_replica, patch_key, patches_of, put_new, take_patch, take_patches, take_told, take_told_in, with_intents}
+use Rattle.pg_run.specs.pg_store.Seen.{removed_of}
+use Rattle.pg_run.specs.pg_store.Store.{is_held, take_entry}
 use Rattle.law_listings.specs.Letters.{patch_place}
 use Rattle.law_listings.proofs.PlacesAlone.{of_places}
 use Rattle.law_listings.proofs.Joined as joined

@@ -3,55 +3,55 @@ use Rattle.std.proofs.Common.{ℕ, ◌≡◌, not, true, drop, length, List, [],
 use Rattle.std.specs.Option.{option_map}
 use Rattle.std.proofs.lemmas.Option.{none-some}
 use Rattle.std.proofs.lemmas.Bool.{and_from, not_from_false}
-use Rattle.law_places.specs.pg_base.declared.id.FileId.{FileId}
-use Rattle.law_places.specs.pg_base.Id.{is_same_file}
-use Rattle.law_places.specs.pg_base.Stamp.{is_before}
-use Rattle.law_places.proofs.pg_base.Orders.{is_same_file-refl}
-use Rattle.law_places.specs.pg_entries.declared.entry.Entry.{Entry}
-use Rattle.law_places.specs.pg_entries.Entry.{is_listed}
-use Rattle.law_places.specs.pg_house.Calm.{IsSameOrPlaced, held_place}
-use Rattle.law_places.specs.pg_house.Facts.{AreByServer, IsLast, IsLeft, IsOfDirs, IsOneOf}
-use Rattle.law_places.specs.pg_house.House.{house}
-use Rattle.law_places.specs.pg_house.Work.{State, state_of}
-use Rattle.law_places.proofs.pg_house.Keys.{rules_by}
-use Rattle.law_places.proofs.pg_house.Replaced.{noted}
-use Rattle.law_places.specs.pg_intent.declared.intent.Intent.TheVariants as intent
-use Rattle.law_places.specs.pg_intent.declared.key.IntentKey.TheVariants as intent_key
-use Rattle.law_places.specs.pg_intent.Intents.{intent_at, stands}
+use Rattle.pg_run.specs.pg_base.declared.id.FileId.{FileId}
+use Rattle.pg_run.specs.pg_base.Id.{is_same_file}
+use Rattle.pg_run.specs.pg_base.Stamp.{is_before}
+use Rattle.pg_run.proofs.pg_base.Orders.{is_same_file-refl}
+use Rattle.pg_run.specs.pg_entries.declared.entry.Entry.{Entry}
+use Rattle.pg_run.specs.pg_entries.Entry.{is_listed}
+use Rattle.pg_run.specs.pg_house.Calm.{IsSameOrPlaced, held_place}
+use Rattle.pg_run.specs.pg_house.Facts.{AreByServer, IsLast, IsLeft, IsOfDirs, IsOneOf}
+use Rattle.pg_run.specs.pg_house.House.{house}
+use Rattle.pg_run.specs.pg_house.Work.{State, state_of}
+use Rattle.pg_run.proofs.pg_house.Keys.{rules_by}
+use Rattle.pg_run.proofs.pg_house.Replaced.{noted}
+use Rattle.pg_run.specs.pg_intent.declared.intent.Intent.TheVariants as intent
+use Rattle.pg_run.specs.pg_intent.declared.key.IntentKey.TheVariants as intent_key
+use Rattle.pg_run.specs.pg_intent.Intents.{intent_at, stands}
 use Rattle.theory_listing.specs.Protocol.{Above, AtLeast, IsIn, Lists}
 use Rattle.theory_listing.specs.Parts.{SecondPart}
 use Rattle.theory_listing.specs.Rule.{IsToldAt}
-use Rattle.law_places.specs.pg_msg.declared.work.Slot.{Slot}
-use Rattle.law_places.specs.pg_msg.declared.work.Touched.{Touched}
-use Rattle.law_places.specs.pg_msg.declared.work.Work.{Work}
-use Rattle.law_places.specs.pg_names.declared.attributes.Attributes.{Attributes}
-use Rattle.law_places.specs.pg_names.Names.{NamesValue, own_at, own_or_blank, or_blank}
-use Rattle.law_places.specs.pg_names.Names as names
+use Rattle.pg_run.specs.pg_msg.declared.work.Slot.{Slot}
+use Rattle.pg_run.specs.pg_msg.declared.work.Touched.{Touched}
+use Rattle.pg_run.specs.pg_msg.declared.work.Work.{Work}
+use Rattle.pg_run.specs.pg_names.declared.attributes.Attributes.{Attributes}
+use Rattle.pg_run.specs.pg_names.Names.{NamesValue, own_at, own_or_blank, or_blank}
+use Rattle.pg_run.specs.pg_names.Names as names
 use Rattle.law_places.proofs.Behind.{touched_intents, touched_names}
-use Rattle.law_places.specs.pg_register.declared.place.Place.{Place}
-use Rattle.law_places.specs.pg_intentions.Confirms.{is_doubtful, is_doubtful_cell}
-use Rattle.law_places.proofs.pg_intentions.Steady.{begin_end_stays}
-use Rattle.law_places.specs.pg_replica.declared.replica.Replica.{Replica}
-use Rattle.law_places.specs.pg_replica.Replicas.{ByFile, replica_in}
-use Rattle.law_places.specs.pg_run.Intending.{IntendsInOrder}
-use Rattle.law_places.specs.pg_server.Local.{intended, settled}
+use Rattle.pg_run.specs.pg_register.declared.place.Place.{Place}
+use Rattle.pg_run.specs.pg_intentions.Confirms.{is_doubtful, is_doubtful_cell}
+use Rattle.pg_run.proofs.pg_intentions.Steady.{begin_end_stays}
+use Rattle.pg_run.specs.pg_replica.declared.replica.Replica.{Replica}
+use Rattle.pg_run.specs.pg_replica.Replicas.{ByFile, replica_in}
+use Rattle.pg_run.specs.Intending.{IntendsInOrder}
+use Rattle.pg_run.specs.pg_server.Local.{intended, settled}
 use Rattle.theory_listing_house.specs.Listing.{HaveSamePlaces, cell_place, listing, own_place}
 use Rattle.theory_listing_house.specs.Second.{Intends}
 use Rattle.theory_listing_house.proofs.Given.{nothing_begins, replaced_are_noted}
 use Rattle.theory_listing_house.proofs.Second.{rules_are_second_parts}
 use Rattle.theory_listing_house.proofs.Seen.{cell_is, own_is}
 use Rattle.theory_listing_house.proofs.Works.{house_unsure}
-use Rattle.law_places.specs.pg_store.declared.store.Store.{Store}
-use Rattle.law_places.specs.pg_store.Births.{birth_of}
-use Rattle.law_places.specs.pg_store.Seen.{view_of}
-use Rattle.law_places.specs.pg_store.Store.{is_held, touch, with_names}
-use Rattle.law_places.specs.pg_store.Together.{BirthsMove, birth_at}
-use Rattle.law_places.proofs.pg_store.Over.{over_stays}
-use Rattle.law_places.proofs.pg_store.Pairs.{touch_as_before}
-use Rattle.law_places.specs.pg_pieces.Done.{Done}
-use Rattle.law_places.specs.pg_cells.Raised.{DiffersByGolds}
-use Rattle.law_places.specs.pg_cells.Settling.{ruled, touch_all}
-use Rattle.law_places.proofs.pg_cells.Calmed.{settle_golds}
+use Rattle.pg_run.specs.pg_store.declared.store.Store.{Store}
+use Rattle.pg_run.specs.pg_store.Births.{birth_of}
+use Rattle.pg_run.specs.pg_store.Seen.{view_of}
+use Rattle.pg_run.specs.pg_store.Store.{is_held, touch, with_names}
+use Rattle.pg_run.specs.pg_store.Together.{BirthsMove, birth_at}
+use Rattle.pg_run.proofs.pg_store.Over.{over_stays}
+use Rattle.pg_run.proofs.pg_store.Pairs.{touch_as_before}
+use Rattle.pg_run.specs.pg_pieces.Done.{Done}
+use Rattle.pg_run.specs.pg_cells.Raised.{DiffersByGolds}
+use Rattle.pg_run.specs.pg_cells.Settling.{ruled, touch_all}
+use Rattle.pg_run.proofs.pg_cells.Calmed.{settle_golds}
 use Rattle.law_listings.specs.Laws.{MaySettle}
 use Rattle.law_listings.specs.Letters.{Letter, beside, of_stores, patch_place}
 use Rattle.law_listings.proofs.Births.{birth_on, not_over, over_back, same_birth}

@@ -3,15 +3,15 @@ use Rattle.std.proofs.Common.{ℕ, ◌≡◌, ◌≤◌, true, false, Option, No
 use Rattle.std.specs.Option.{option_map}
 use Rattle.std.proofs.lemmas.Bool.{false≢true}
 use Rattle.std.proofs.lemmas.Option.{none-some, same_Some}
-use Rattle.law_places.specs.pg_base.declared.id.FileId.{FileId}
-use Rattle.law_places.specs.pg_replica.declared.replica.Replica.{Replica}
-use Rattle.law_places.specs.pg_replica.Replicas.{ByFile, is_of_birth, or_nothing, replica_in}
-use Rattle.law_places.specs.pg_store.declared.store.Store.{Store}
-use Rattle.law_places.specs.pg_store.Births.{birth_of, has_birth, is_pending}
-use Rattle.law_places.specs.pg_store.Store.{is_held, replica_at}
-use Rattle.law_places.specs.pg_store.Together.{AreTogether, BirthsMove, IsOver, birth_at}
-use Rattle.law_places.proofs.pg_store.Over.{moves_then, over_stays}
-use Rattle.law_places.specs.pg_run.Births.{StaysOrGoes}
+use Rattle.pg_run.specs.pg_base.declared.id.FileId.{FileId}
+use Rattle.pg_run.specs.pg_replica.declared.replica.Replica.{Replica}
+use Rattle.pg_run.specs.pg_replica.Replicas.{ByFile, is_of_birth, or_nothing, replica_in}
+use Rattle.pg_run.specs.pg_store.declared.store.Store.{Store}
+use Rattle.pg_run.specs.pg_store.Births.{birth_of, has_birth, is_pending}
+use Rattle.pg_run.specs.pg_store.Store.{is_held, replica_at}
+use Rattle.pg_run.specs.pg_store.Together.{AreTogether, BirthsMove, IsOver, birth_at}
+use Rattle.pg_run.proofs.pg_store.Over.{moves_then, over_stays}
+use Rattle.pg_run.specs.Births.{StaysOrGoes}
 use Rattle.law_listings.proofs.PlacesAlone.{GoOn, of_places}
 use Rattle.law_listings.proofs.Views.{holds_held, none_away}
 

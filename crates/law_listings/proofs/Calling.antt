@@ -1,46 +1,46 @@
 -- The first part of a step, for each call.
 use Rattle.std.proofs.Common.{ℕ, ◌≡◌, ◌==◌, true, false, List, Option, None, Some, Result, Ok, Err, refl, sym, subst}
-use Rattle.law_places.specs.pg_base.declared.id.FileId.{FileId}
-use Rattle.law_places.specs.pg_base.declared.id.Kind.{Kind}
-use Rattle.law_places.specs.pg_base.declared.id.Kind.TheVariants.{Dir, File}
-use Rattle.law_places.specs.pg_base.declared.policy.Policy.{Policy}
-use Rattle.law_places.specs.pg_base.declared.policy.Policy.TheVariants.{Last}
-use Rattle.law_places.specs.pg_call.declared.call.Call.{Call}
-use Rattle.law_places.specs.pg_call.declared.call.Call.TheVariants as call
-use Rattle.law_places.specs.pg_call.declared.reply.Reply.{Reply}
-use Rattle.law_places.specs.pg_call.declared.reply.Reply.TheVariants as reply
-use Rattle.law_places.specs.pg_house.Facts.{IsOneOf}
-use Rattle.law_places.specs.pg_msg.declared.update.Update.TheVariants as update
-use Rattle.law_places.specs.pg_msg.declared.work.Work.{Work}
-use Rattle.law_places.specs.pg_msg.Work.{new_work, with_made}
-use Rattle.law_places.specs.pg_names.Names.{blank_own}
-use Rattle.law_places.specs.pg_patch.Ranges.{RangesValue, cut_to, written}
-use Rattle.law_places.proofs.theory_flood_pieces.Choices.{chosen}
-use Rattle.law_places.specs.pg_register.declared.flag.Flag.{Flag}
-use Rattle.law_places.specs.pg_register.declared.place.Place.{Place}
-use Rattle.law_places.specs.pg_run.Intending.{IntendsInOrder, PatchesStand}
-use Rattle.law_places.specs.pg_store.declared.store.Store.{Store}
-use Rattle.law_places.specs.pg_store.declared.wishes.Wish.{Wish}
-use Rattle.law_places.specs.pg_store.Births.{draw_birth, with_birth, with_wish}
-use Rattle.law_places.specs.pg_store.Seen.{view_of}
-use Rattle.law_places.specs.pg_store.Store.{is_held}
-use Rattle.law_places.specs.pg_lookup.declared.paths.Found.{Found}
-use Rattle.law_places.specs.pg_lookup.declared.paths.LookupError.{LookupError}
-use Rattle.law_places.specs.pg_lookup.declared.paths.LookupError.TheVariants as stop
-use Rattle.law_places.specs.pg_pieces.Done.{Done, idle}
-use Rattle.law_places.specs.pg_pieces.Intending.{begin_intent}
-use Rattle.law_places.specs.pg_checks.declared.checks.NewName.{NewName}
-use Rattle.law_places.specs.pg_checks.Answer.{Answer, answer, answered, deny, replied, told}
-use Rattle.law_places.specs.pg_checks.Asking.{ask_by, fetch, fresh_wish, holder, standing}
-use Rattle.law_places.specs.pg_calls.Bodies.{change, change_file, when_fit}
-use Rattle.law_places.specs.pg_calls.Calls.{do_call}
-use Rattle.law_places.specs.pg_checks.Checks.{dir_at, empty_dir_at, file_at, in_time, move_of, new_name, target_at}
-use Rattle.law_places.specs.pg_calls.Demoting.{demoted_at, lowered}
-use Rattle.law_places.specs.pg_calls.Dropping.{clean_gold, dropped_at, leave_of, leaving}
-use Rattle.law_places.specs.pg_calls.Forgetting.{forget_lost, lost_at}
-use Rattle.law_places.specs.pg_calls.GivingUp.{enter_view, removal_at}
-use Rattle.law_places.specs.pg_calls.Making.{drawn, make_place, make_version}
-use Rattle.law_places.specs.pg_calls.Naming.{begun, dead_place, next_id, place_in, with_first_version, with_id, with_thing}
+use Rattle.pg_run.specs.pg_base.declared.id.FileId.{FileId}
+use Rattle.pg_run.specs.pg_base.declared.id.Kind.{Kind}
+use Rattle.pg_run.specs.pg_base.declared.id.Kind.TheVariants.{Dir, File}
+use Rattle.pg_run.specs.pg_base.declared.policy.Policy.{Policy}
+use Rattle.pg_run.specs.pg_base.declared.policy.Policy.TheVariants.{Last}
+use Rattle.pg_run.specs.pg_call.declared.call.Call.{Call}
+use Rattle.pg_run.specs.pg_call.declared.call.Call.TheVariants as call
+use Rattle.pg_run.specs.pg_call.declared.reply.Reply.{Reply}
+use Rattle.pg_run.specs.pg_call.declared.reply.Reply.TheVariants as reply
+use Rattle.pg_run.specs.pg_house.Facts.{IsOneOf}
+use Rattle.pg_run.specs.pg_msg.declared.update.Update.TheVariants as update
+use Rattle.pg_run.specs.pg_msg.declared.work.Work.{Work}
+use Rattle.pg_run.specs.pg_msg.Work.{new_work, with_made}
+use Rattle.pg_run.specs.pg_names.Names.{blank_own}
+use Rattle.pg_run.specs.pg_patch.Ranges.{RangesValue, cut_to, written}
+use Rattle.pg_run.proofs.theory_flood_pieces.Choices.{chosen}
+use Rattle.pg_run.specs.pg_register.declared.flag.Flag.{Flag}
+use Rattle.pg_run.specs.pg_register.declared.place.Place.{Place}
+use Rattle.pg_run.specs.Intending.{IntendsInOrder, PatchesStand}
+use Rattle.pg_run.specs.pg_store.declared.store.Store.{Store}
+use Rattle.pg_run.specs.pg_store.declared.wishes.Wish.{Wish}
+use Rattle.pg_run.specs.pg_store.Births.{draw_birth, with_birth, with_wish}
+use Rattle.pg_run.specs.pg_store.Seen.{view_of}
+use Rattle.pg_run.specs.pg_store.Store.{is_held}
+use Rattle.pg_run.specs.pg_lookup.declared.paths.Found.{Found}
+use Rattle.pg_run.specs.pg_lookup.declared.paths.LookupError.{LookupError}
+use Rattle.pg_run.specs.pg_lookup.declared.paths.LookupError.TheVariants as stop
+use Rattle.pg_run.specs.pg_pieces.Done.{Done, idle}
+use Rattle.pg_run.specs.pg_pieces.Intending.{begin_intent}
+use Rattle.pg_run.specs.pg_checks.declared.checks.NewName.{NewName}
+use Rattle.pg_run.specs.pg_checks.Answer.{Answer, answer, answered, deny, replied, told}
+use Rattle.pg_run.specs.pg_checks.Asking.{ask_by, fetch, fresh_wish, holder, standing}
+use Rattle.pg_run.specs.pg_calls.Bodies.{change, change_file, when_fit}
+use Rattle.pg_run.specs.pg_calls.Calls.{do_call}
+use Rattle.pg_run.specs.pg_checks.Checks.{dir_at, empty_dir_at, file_at, in_time, move_of, new_name, target_at}
+use Rattle.pg_run.specs.pg_calls.Demoting.{demoted_at, lowered}
+use Rattle.pg_run.specs.pg_calls.Dropping.{clean_gold, dropped_at, leave_of, leaving}
+use Rattle.pg_run.specs.pg_calls.Forgetting.{forget_lost, lost_at}
+use Rattle.pg_run.specs.pg_calls.GivingUp.{enter_view, removal_at}
+use Rattle.pg_run.specs.pg_calls.Making.{drawn, make_place, make_version}
+use Rattle.pg_run.specs.pg_calls.Naming.{begun, dead_place, next_id, place_in, with_first_version, with_id, with_thing}
 use Rattle.law_listings.specs.Letters.{Letter}
 use Rattle.law_listings.proofs.PlacesAlone.{IsPart}
 use Rattle.law_listings.proofs.Alike.{Alike, Alike-refl, alike_by, before_alike, behind_alike}

@@ -6,46 +6,46 @@ use Rattle.std.proofs.lemmas.Bool.{false≢true, and_from}
 use Rattle.std.proofs.lemmas.Bool.Decides.{nat_tests}
 use Rattle.std.proofs.lemmas.List.{take_all}
 use Rattle.std.proofs.lemmas.Option.{none-some, same_Some}
-use Rattle.law_places.specs.pg_base.declared.id.FileId.{FileId}
-use Rattle.law_places.specs.pg_base.declared.stamp.Stamp.{Stamp}
-use Rattle.law_places.specs.pg_edges.declared.key.Key.{Key}
-use Rattle.law_places.specs.pg_edges.declared.key.Key.TheVariants as key
-use Rattle.law_places.specs.pg_entries.declared.cell.Cell.{Cell}
-use Rattle.law_places.specs.pg_entries.declared.cell.Cell.TheVariants as cells
-use Rattle.law_places.specs.pg_entries.declared.entry.Entry.{Entry}
-use Rattle.law_places.specs.pg_event.declared.event.Event.{Event}
-use Rattle.law_places.proofs.pg_house.Going.{HaveChildren}
+use Rattle.pg_run.specs.pg_base.declared.id.FileId.{FileId}
+use Rattle.pg_run.specs.pg_base.declared.stamp.Stamp.{Stamp}
+use Rattle.pg_run.specs.pg_edges.declared.key.Key.{Key}
+use Rattle.pg_run.specs.pg_edges.declared.key.Key.TheVariants as key
+use Rattle.pg_run.specs.pg_entries.declared.cell.Cell.{Cell}
+use Rattle.pg_run.specs.pg_entries.declared.cell.Cell.TheVariants as cells
+use Rattle.pg_run.specs.pg_entries.declared.entry.Entry.{Entry}
+use Rattle.pg_run.specs.pg_event.declared.event.Event.{Event}
+use Rattle.pg_run.proofs.pg_house.Going.{HaveChildren}
 use Rattle.theory_listing.specs.Rule.{IsSafeDrop, IsToldAt}
 use Rattle.theory_listing.specs.World as listing
 use Rattle.theory_listing.specs.World.Saying.{LeaveOk, Other}
-use Rattle.law_places.specs.pg_msg.declared.message.Ends.{Ends}
-use Rattle.law_places.specs.pg_msg.declared.message.Message.{Message}
-use Rattle.law_places.specs.pg_msg.declared.message.Message.TheVariants as message
-use Rattle.law_places.specs.pg_msg.declared.message.Packet.{Packet}
-use Rattle.law_places.specs.pg_msg.declared.message.Sent.{Sent}
-use Rattle.law_places.specs.pg_names.Names.{cell_at as entry_at}
-use Rattle.law_places.specs.theory_flood_pieces.UpTo.{IsUpTo}
-use Rattle.law_places.proofs.theory_flood_pieces.Sending.{own_key}
-use Rattle.law_places.specs.pg_register.declared.place.Place.{Place}
-use Rattle.law_places.specs.pg_register.Flag.{is_removed}
-use Rattle.law_places.specs.pg_replica.declared.replica.Replica.{Replica}
-use Rattle.law_places.specs.pg_server.declared.input.Input.{Input}
-use Rattle.law_places.specs.pg_server.declared.input.Input.TheVariants as input
-use Rattle.law_places.specs.pg_server.Local.{effect, is_heard, takes_effect}
+use Rattle.pg_run.specs.pg_msg.declared.message.Ends.{Ends}
+use Rattle.pg_run.specs.pg_msg.declared.message.Message.{Message}
+use Rattle.pg_run.specs.pg_msg.declared.message.Message.TheVariants as message
+use Rattle.pg_run.specs.pg_msg.declared.message.Packet.{Packet}
+use Rattle.pg_run.specs.pg_msg.declared.message.Sent.{Sent}
+use Rattle.pg_run.specs.pg_names.Names.{cell_at as entry_at}
+use Rattle.pg_run.specs.theory_flood_pieces.UpTo.{IsUpTo}
+use Rattle.pg_run.proofs.theory_flood_pieces.Sending.{own_key}
+use Rattle.pg_run.specs.pg_register.declared.place.Place.{Place}
+use Rattle.pg_run.specs.pg_register.Flag.{is_removed}
+use Rattle.pg_run.specs.pg_replica.declared.replica.Replica.{Replica}
+use Rattle.pg_run.specs.pg_server.declared.input.Input.{Input}
+use Rattle.pg_run.specs.pg_server.declared.input.Input.TheVariants as input
+use Rattle.pg_run.specs.pg_server.Local.{effect, is_heard, takes_effect}
 use Rattle.theory_listing_house.specs.Listing.{cell_place}
 use Rattle.theory_listing_house.proofs.Seen.{at_most, cell_is}
-use Rattle.law_places.specs.pg_store.declared.store.Store.{Store}
-use Rattle.law_places.specs.pg_store.Births.{birth_of}
-use Rattle.law_places.specs.pg_store.Seen.{view_of}
-use Rattle.law_places.specs.pg_store.Cells.{cell_at, entry_cell, is_sure}
-use Rattle.law_places.specs.pg_store.Store.{is_held, replica_at}
-use Rattle.law_places.specs.pg_store.Together.{AreTogether}
-use Rattle.law_places.specs.pg_run.Carried.{gone_by, gone_in}
-use Rattle.law_places.specs.pg_run.Laws.{TakesIn}
-use Rattle.law_places.specs.pg_run.Leaving.{Goes, HasEachCell}
-use Rattle.law_places.specs.pg_run.Journal.{mail, removals}
-use Rattle.law_places.specs.pg_run.Run.{is_live, is_server, run}
-use Rattle.law_places.proofs.pg_run.Frame.{HasCome}
+use Rattle.pg_run.specs.pg_store.declared.store.Store.{Store}
+use Rattle.pg_run.specs.pg_store.Births.{birth_of}
+use Rattle.pg_run.specs.pg_store.Seen.{view_of}
+use Rattle.pg_run.specs.pg_store.Cells.{cell_at, entry_cell, is_sure}
+use Rattle.pg_run.specs.pg_store.Store.{is_held, replica_at}
+use Rattle.pg_run.specs.pg_store.Together.{AreTogether}
+use Rattle.pg_run.specs.Carried.{gone_by, gone_in}
+use Rattle.pg_run.specs.Laws.{TakesIn}
+use Rattle.pg_run.specs.Leaving.{Goes, HasEachCell}
+use Rattle.pg_run.specs.Journal.{mail, removals}
+use Rattle.pg_run.specs.Run.{is_live, is_server, run}
+use Rattle.pg_run.proofs.Frame.{HasCome}
 use Rattle.law_listings.specs.Laws.{ListingsStandOn}
 use Rattle.law_listings.specs.Letters.{Letter, letter, listings, of_stores, place_of, says}
 use Rattle.law_listings.proofs.Births.{born, held_born}

@@ -7,46 +7,46 @@ use Rattle.std.specs.Map.{keys_of, lookup}
 use Rattle.std.proofs.lemmas.Bool.{and_parts, false≢true}
 use Rattle.std.proofs.lemmas.List.{length-append}
 use Rattle.std.proofs.lemmas.Option.{none-some}
-use Rattle.law_places.specs.pg_base.declared.id.FileId.{FileId}
-use Rattle.law_places.specs.pg_base.Id.{file_cmp, is_same_file}
-use Rattle.law_places.proofs.pg_base.Orders.{is_same_file-refl, is_same_file-true}
-use Rattle.law_places.specs.pg_calls.GivingUp.{cells_of, doubt_all, enter_view, slots_in}
-use Rattle.law_places.specs.pg_pieces.Done.{Done}
-use Rattle.law_places.specs.pg_entries.declared.entry.Entry.{Entry}
-use Rattle.law_places.specs.pg_house.Facts.{IsOneOf, is_among}
-use Rattle.law_places.proofs.pg_house.Counting.{among_kept}
-use Rattle.law_places.proofs.pg_house.Ends.{key_of_held}
-use Rattle.law_places.proofs.pg_house.Greatest.{cell_held}
-use Rattle.law_places.proofs.pg_house.Truths.{or_cases}
-use Rattle.law_places.specs.pg_intent.declared.intent.Intent.{Intent}
-use Rattle.law_places.specs.pg_intent.declared.intent.Intent.TheVariants as intent
-use Rattle.law_places.specs.pg_intent.declared.key.IntentKey.{IntentKey}
-use Rattle.law_places.specs.pg_intent.declared.key.IntentKey.TheVariants as intent_key
-use Rattle.law_places.specs.pg_intent.Intents.{begun, begun_on, intent_at, keys_to, stands}
-use Rattle.law_places.proofs.pg_intent.Found.{begun_found, stands_is}
-use Rattle.law_places.proofs.pg_intent.Turned.{each_found, is_one_of}
+use Rattle.pg_run.specs.pg_base.declared.id.FileId.{FileId}
+use Rattle.pg_run.specs.pg_base.Id.{file_cmp, is_same_file}
+use Rattle.pg_run.proofs.pg_base.Orders.{is_same_file-refl, is_same_file-true}
+use Rattle.pg_run.specs.pg_calls.GivingUp.{cells_of, doubt_all, enter_view, slots_in}
+use Rattle.pg_run.specs.pg_pieces.Done.{Done}
+use Rattle.pg_run.specs.pg_entries.declared.entry.Entry.{Entry}
+use Rattle.pg_run.specs.pg_house.Facts.{IsOneOf, is_among}
+use Rattle.pg_run.proofs.pg_house.Counting.{among_kept}
+use Rattle.pg_run.proofs.pg_house.Ends.{key_of_held}
+use Rattle.pg_run.proofs.pg_house.Greatest.{cell_held}
+use Rattle.pg_run.proofs.pg_house.Truths.{or_cases}
+use Rattle.pg_run.specs.pg_intent.declared.intent.Intent.{Intent}
+use Rattle.pg_run.specs.pg_intent.declared.intent.Intent.TheVariants as intent
+use Rattle.pg_run.specs.pg_intent.declared.key.IntentKey.{IntentKey}
+use Rattle.pg_run.specs.pg_intent.declared.key.IntentKey.TheVariants as intent_key
+use Rattle.pg_run.specs.pg_intent.Intents.{begun, begun_on, intent_at, keys_to, stands}
+use Rattle.pg_run.proofs.pg_intent.Found.{begun_found, stands_is}
+use Rattle.pg_run.proofs.pg_intent.Turned.{each_found, is_one_of}
 use Rattle.theory_listing.specs.Protocol.{Lists}
 use Rattle.theory_listing.proofs.Handlers.{entered_first}
-use Rattle.law_places.specs.pg_msg.declared.work.Slot.{Slot}
-use Rattle.law_places.specs.pg_msg.declared.work.Work.{Work}
-use Rattle.law_places.specs.pg_msg.Work.{new_work}
-use Rattle.law_places.specs.pg_names.Names.{InodeValue, NamesValue, cell_at, directories, entry_in, is_dir, known, own_at, remove_server}
-use Rattle.law_places.proofs.theory_flood_pieces.Choices.{chosen}
-use Rattle.law_places.specs.pg_register.declared.place.Place.{Place}
-use Rattle.law_places.specs.pg_intentions.Inviting.{invite_along, invite_each, invite_of, invites, loose_edge}
+use Rattle.pg_run.specs.pg_msg.declared.work.Slot.{Slot}
+use Rattle.pg_run.specs.pg_msg.declared.work.Work.{Work}
+use Rattle.pg_run.specs.pg_msg.Work.{new_work}
+use Rattle.pg_run.specs.pg_names.Names.{InodeValue, NamesValue, cell_at, directories, entry_in, is_dir, known, own_at, remove_server}
+use Rattle.pg_run.proofs.theory_flood_pieces.Choices.{chosen}
+use Rattle.pg_run.specs.pg_register.declared.place.Place.{Place}
+use Rattle.pg_run.specs.pg_intentions.Inviting.{invite_along, invite_each, invite_of, invites, loose_edge}
 use Rattle.theory_listing_house.specs.Listing.{cell_place, own_place}
 use Rattle.theory_listing_house.proofs.Seen.{cell_is}
-use Rattle.law_places.specs.pg_edges.declared.edge.Edge.{Edge}
-use Rattle.law_places.specs.pg_store.declared.store.Store.{Store}
-use Rattle.law_places.specs.pg_store.Beginning.{with_intents}
-use Rattle.law_places.specs.pg_store.Births.{is_fill_at, wish_at}
-use Rattle.law_places.specs.pg_store.Servers.{next_target}
-use Rattle.law_places.specs.pg_store.Store.{is_held}
-use Rattle.law_places.specs.pg_store.Links.{is_linked}
-use Rattle.law_places.specs.pg_store.Seen.{removed_of, view_of}
-use Rattle.law_places.specs.pg_store.Views.{cut, cut_born, cut_each, enter, listed_birth, with_removed}
-use Rattle.law_places.specs.pg_store.Wishes.{is_with_birth}
-use Rattle.law_places.proofs.pg_store.Entered.{enter_names}
+use Rattle.pg_run.specs.pg_edges.declared.edge.Edge.{Edge}
+use Rattle.pg_run.specs.pg_store.declared.store.Store.{Store}
+use Rattle.pg_run.specs.pg_store.Beginning.{with_intents}
+use Rattle.pg_run.specs.pg_store.Births.{is_fill_at, wish_at}
+use Rattle.pg_run.specs.pg_store.Servers.{next_target}
+use Rattle.pg_run.specs.pg_store.Store.{is_held}
+use Rattle.pg_run.specs.pg_store.Links.{is_linked}
+use Rattle.pg_run.specs.pg_store.Seen.{removed_of, view_of}
+use Rattle.pg_run.specs.pg_store.Views.{cut, cut_born, cut_each, enter, listed_birth, with_removed}
+use Rattle.pg_run.specs.pg_store.Wishes.{is_with_birth}
+use Rattle.pg_run.proofs.pg_store.Entered.{enter_names}
 use Rattle.law_listings.specs.Letters.{Letter, patch_place}
 use Rattle.law_listings.proofs.Births.{SameBirths}
 use Rattle.law_listings.proofs.Heard.{IsFirst}

@@ -3,42 +3,42 @@ use Rattle.std.proofs.Common.{ℕ, ◌≡◌, ◌==◌, ◌&&◌, Bool, true, fa
 use Rattle.std.specs.List.{flat_map}
 use Rattle.std.proofs.lemmas.Bool.{and_parts, eqb-true}
 use Rattle.std.proofs.lemmas.List.Elements.{All-append, All-nil}
-use Rattle.law_places.specs.pg_base.declared.id.Kind.{Kind}
-use Rattle.law_places.specs.pg_call.declared.call.Call.{Call}
-use Rattle.law_places.specs.pg_call.declared.reply.Reply.{Reply}
-use Rattle.law_places.proofs.pg_calls.Late.{late_does_nothing}
-use Rattle.law_places.specs.pg_calls.Calls.{do_call}
-use Rattle.law_places.specs.pg_calls.Naming.{next_id}
-use Rattle.law_places.proofs.pg_house.Going.{HaveChildren}
+use Rattle.pg_run.specs.pg_base.declared.id.Kind.{Kind}
+use Rattle.pg_run.specs.pg_call.declared.call.Call.{Call}
+use Rattle.pg_run.specs.pg_call.declared.reply.Reply.{Reply}
+use Rattle.pg_run.proofs.pg_calls.Late.{late_does_nothing}
+use Rattle.pg_run.specs.pg_calls.Calls.{do_call}
+use Rattle.pg_run.specs.pg_calls.Naming.{next_id}
+use Rattle.pg_run.proofs.pg_house.Going.{HaveChildren}
 use Rattle.theory_listing.specs.Rule.{IsSettled, MayStep}
 use Rattle.theory_listing.specs.World.{Among}
 use Rattle.theory_listing.specs.World.Saying.{Other}
-use Rattle.law_places.specs.pg_msg.declared.message.Packet.{Packet}
-use Rattle.law_places.specs.pg_msg.declared.message.Sent.{Sent}
-use Rattle.law_places.specs.pg_msg.declared.work.Work.{Work}
-use Rattle.law_places.specs.pg_msg.Numbers.{is_in_range}
-use Rattle.law_places.specs.pg_msg.Work.{new_work}
-use Rattle.law_places.specs.pg_run.Intending.{IntendsInOrder}
-use Rattle.law_places.specs.pg_server.declared.input.Input.{Input}
-use Rattle.law_places.specs.pg_server.declared.input.Input.TheVariants as input
-use Rattle.law_places.specs.pg_server.Local.{Effect, closed, done_of, effect, finished, first_effect, is_heard, receive, reply_to, settled as settled_by, ticked, without_sources, without_volatile}
-use Rattle.law_places.specs.pg_server.Local.{intended}
-use Rattle.law_places.proofs.pg_run.Event.{nothing_last, nothing_sent as nothing_sent_behind}
-use Rattle.law_places.specs.pg_store.declared.store.Store.{Store}
-use Rattle.law_places.specs.pg_store.Seen.{view_of}
-use Rattle.law_places.specs.pg_store.Servers.{is_live_other}
-use Rattle.law_places.specs.pg_store.Store.{is_held, is_before_clock_end}
-use Rattle.law_places.specs.pg_pieces.Done.{Done, idle}
-use Rattle.law_places.specs.pg_cells.Sending.{cells_where, is_any, is_chosen}
-use Rattle.law_places.specs.pg_cells.Ticks.{tick}
-use Rattle.law_places.specs.pg_intentions.Requests.{ask_all, asks_by}
+use Rattle.pg_run.specs.pg_msg.declared.message.Packet.{Packet}
+use Rattle.pg_run.specs.pg_msg.declared.message.Sent.{Sent}
+use Rattle.pg_run.specs.pg_msg.declared.work.Work.{Work}
+use Rattle.pg_run.specs.pg_msg.Numbers.{is_in_range}
+use Rattle.pg_run.specs.pg_msg.Work.{new_work}
+use Rattle.pg_run.specs.Intending.{IntendsInOrder}
+use Rattle.pg_run.specs.pg_server.declared.input.Input.{Input}
+use Rattle.pg_run.specs.pg_server.declared.input.Input.TheVariants as input
+use Rattle.pg_run.specs.pg_server.Local.{Effect, closed, done_of, effect, finished, first_effect, is_heard, receive, reply_to, settled as settled_by, ticked, without_sources, without_volatile}
+use Rattle.pg_run.specs.pg_server.Local.{intended}
+use Rattle.pg_run.proofs.Event.{nothing_last, nothing_sent as nothing_sent_behind}
+use Rattle.pg_run.specs.pg_store.declared.store.Store.{Store}
+use Rattle.pg_run.specs.pg_store.Seen.{view_of}
+use Rattle.pg_run.specs.pg_store.Servers.{is_live_other}
+use Rattle.pg_run.specs.pg_store.Store.{is_held, is_before_clock_end}
+use Rattle.pg_run.specs.pg_pieces.Done.{Done, idle}
+use Rattle.pg_run.specs.pg_cells.Sending.{cells_where, is_any, is_chosen}
+use Rattle.pg_run.specs.pg_cells.Ticks.{tick}
+use Rattle.pg_run.specs.pg_intentions.Requests.{ask_all, asks_by}
 use Rattle.law_listings.specs.Laws.{MaySettle}
 use Rattle.law_listings.specs.Letters.{Letter, Saying, letter, of_stores, says}
 use Rattle.law_listings.proofs.Alike.{alike_by}
 use Rattle.law_listings.proofs.Calling.{call_first}
 use Rattle.law_listings.proofs.Heard.{IsBehind, IsFirst, alike_is}
 use Rattle.law_listings.proofs.Births.{AreBirthsOf, event_goes_on}
-use Rattle.law_places.proofs.pg_run.SendsCalls.{call_fine}
+use Rattle.pg_run.proofs.SendsCalls.{call_fine}
 use Rattle.law_listings.proofs.Plain.{IsOther, IsSentStamped, none, other, tick_last}
 use Rattle.law_listings.proofs.Receiving.{IsOne, receive_first}
 use Rattle.law_listings.proofs.Saying.{receive_says}

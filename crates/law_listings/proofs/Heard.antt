@@ -2,47 +2,47 @@
 use Rattle.std.proofs.Common.{ℕ, ◌≡◌, ◌&&◌, ◌||◌, not, Bool, true, false, cond, length, List, Option, None, Some, is_some, refl, sym, ap, subst, ◌∙◌, inl, inr, ◌⊎◌}
 use Rattle.std.proofs.lemmas.Bool.{and_parts, false≢true, and_from, not-true}
 use Rattle.std.proofs.lemmas.Option.{none-some, same_Some}
-use Rattle.law_places.specs.pg_base.declared.id.FileId.{FileId}
-use Rattle.law_places.specs.pg_base.Id.{is_same_file}
-use Rattle.law_places.specs.pg_base.Stamp.{is_before}
-use Rattle.law_places.proofs.pg_base.Orders.{is_same_file-refl, is_same_file-true}
-use Rattle.law_places.specs.pg_content.History.{is_same_stamp}
-use Rattle.law_places.proofs.pg_content.Stamps.{same_stamp}
-use Rattle.law_places.specs.pg_entries.declared.entry.Entry.{Entry}
-use Rattle.law_places.specs.pg_entries.Entry.{is_listed}
-use Rattle.law_places.specs.pg_house.Facts.{IsOneOf}
-use Rattle.law_places.specs.pg_house.Holding.{waits}
-use Rattle.law_places.proofs.pg_house.Noting.{one_last}
-use Rattle.law_places.proofs.pg_house.Truths.{or_cases}
-use Rattle.law_places.specs.pg_intent.declared.intent.Intent.{Intent}
-use Rattle.law_places.specs.pg_intent.declared.intent.Intent.TheVariants as intent
-use Rattle.law_places.specs.pg_intent.declared.key.IntentKey.{IntentKey}
-use Rattle.law_places.specs.pg_intent.declared.key.IntentKey.TheVariants as intent_key
-use Rattle.law_places.specs.pg_intent.Intents.{begun, begun_on, ended, intent_at, stands}
-use Rattle.law_places.specs.pg_intent.Key.{is_same_key}
-use Rattle.law_places.proofs.pg_intent.SameKey.{is_same_key-refl}
-use Rattle.law_places.proofs.pg_intent.Found.{begun_found, ended_found, stands_is}
+use Rattle.pg_run.specs.pg_base.declared.id.FileId.{FileId}
+use Rattle.pg_run.specs.pg_base.Id.{is_same_file}
+use Rattle.pg_run.specs.pg_base.Stamp.{is_before}
+use Rattle.pg_run.proofs.pg_base.Orders.{is_same_file-refl, is_same_file-true}
+use Rattle.pg_run.specs.pg_content.History.{is_same_stamp}
+use Rattle.pg_run.proofs.pg_content.Stamps.{same_stamp}
+use Rattle.pg_run.specs.pg_entries.declared.entry.Entry.{Entry}
+use Rattle.pg_run.specs.pg_entries.Entry.{is_listed}
+use Rattle.pg_run.specs.pg_house.Facts.{IsOneOf}
+use Rattle.pg_run.specs.pg_house.Holding.{waits}
+use Rattle.pg_run.proofs.pg_house.Noting.{one_last}
+use Rattle.pg_run.proofs.pg_house.Truths.{or_cases}
+use Rattle.pg_run.specs.pg_intent.declared.intent.Intent.{Intent}
+use Rattle.pg_run.specs.pg_intent.declared.intent.Intent.TheVariants as intent
+use Rattle.pg_run.specs.pg_intent.declared.key.IntentKey.{IntentKey}
+use Rattle.pg_run.specs.pg_intent.declared.key.IntentKey.TheVariants as intent_key
+use Rattle.pg_run.specs.pg_intent.Intents.{begun, begun_on, ended, intent_at, stands}
+use Rattle.pg_run.specs.pg_intent.Key.{is_same_key}
+use Rattle.pg_run.proofs.pg_intent.SameKey.{is_same_key-refl}
+use Rattle.pg_run.proofs.pg_intent.Found.{begun_found, ended_found, stands_is}
 use Rattle.theory_listing.specs.Protocol.{IsIn, IsUpTo, Lists}
 use Rattle.theory_listing.specs.Parts.{NoneLater}
 use Rattle.theory_listing.specs.Rule.{IsJustTold}
 use Rattle.theory_listing.proofs.Handlers.{cells_first}
-use Rattle.law_places.specs.pg_msg.declared.work.Slot.{Slot}
-use Rattle.law_places.specs.pg_msg.declared.work.Work.{Work}
-use Rattle.law_places.specs.pg_names.Names.{NamesValue, cell_at, own_at}
-use Rattle.law_places.specs.pg_names.Names as names
-use Rattle.law_places.specs.pg_register.declared.place.Place.{Place}
-use Rattle.law_places.specs.pg_register.Flag.{is_removed}
+use Rattle.pg_run.specs.pg_msg.declared.work.Slot.{Slot}
+use Rattle.pg_run.specs.pg_msg.declared.work.Work.{Work}
+use Rattle.pg_run.specs.pg_names.Names.{NamesValue, cell_at, own_at}
+use Rattle.pg_run.specs.pg_names.Names as names
+use Rattle.pg_run.specs.pg_register.declared.place.Place.{Place}
+use Rattle.pg_run.specs.pg_register.Flag.{is_removed}
 use Rattle.theory_listing_house.specs.Listing.{cell_place, own_place}
 use Rattle.theory_listing_house.proofs.Seen.{before_trans}
-use Rattle.law_places.specs.pg_store.declared.store.Store.{Store}
-use Rattle.law_places.specs.pg_store.Beginning.{with_intents}
-use Rattle.law_places.specs.pg_store.Births.{is_fill_at, wish_at}
-use Rattle.law_places.specs.pg_store.Seen.{removed_of, view_of}
-use Rattle.law_places.specs.pg_store.Store.{entry_news, is_held, take_entry, take_place}
-use Rattle.law_places.specs.pg_store.Wishes.{is_with_birth}
-use Rattle.law_places.specs.pg_pieces.Done.{Done, idle}
-use Rattle.law_places.specs.pg_pieces.Taking.{is_place_news, take_entry_cell, take_entry_noted, take_place_noted, with_doubt}
-use Rattle.law_places.specs.pg_repair.Confirming.{end_confirmed, is_confirmed, is_confirmed_by}
+use Rattle.pg_run.specs.pg_store.declared.store.Store.{Store}
+use Rattle.pg_run.specs.pg_store.Beginning.{with_intents}
+use Rattle.pg_run.specs.pg_store.Births.{is_fill_at, wish_at}
+use Rattle.pg_run.specs.pg_store.Seen.{removed_of, view_of}
+use Rattle.pg_run.specs.pg_store.Store.{entry_news, is_held, take_entry, take_place}
+use Rattle.pg_run.specs.pg_store.Wishes.{is_with_birth}
+use Rattle.pg_run.specs.pg_pieces.Done.{Done, idle}
+use Rattle.pg_run.specs.pg_pieces.Taking.{is_place_news, take_entry_cell, take_entry_noted, take_place_noted, with_doubt}
+use Rattle.pg_run.specs.pg_repair.Confirming.{end_confirmed, is_confirmed, is_confirmed_by}
 use Rattle.law_listings.specs.Letters.{Letter, patch_place}
 use Rattle.law_listings.proofs.PlacesAlone.{IsPart, of_places}
 use Rattle.law_listings.proofs.Alike.{Alike, Alike-refl, alike_first, behind_alike, view_on}

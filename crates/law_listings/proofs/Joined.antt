@@ -2,27 +2,27 @@
 use Rattle.std.proofs.Common.{◌≡◌, ◌||◌, Bool, true, false, cond, if◌then◌else◌, Option, None, Some, is_some, refl, sym, ap, subst, ◌∙◌, inl, inr, ◌⊎◌}
 use Rattle.std.proofs.lemmas.Bool.{false≢true}
 use Rattle.std.proofs.lemmas.Option.{none-some, same_Some}
-use Rattle.law_places.specs.pg_base.declared.id.FileId.{FileId}
-use Rattle.law_places.specs.pg_base.Stamp.{UpTo, is_before}
-use Rattle.law_places.specs.pg_base.Id.{is_same_file}
-use Rattle.law_places.proofs.pg_base.Orders.{is_before-false, is_same_file-true}
-use Rattle.law_places.specs.pg_entries.declared.entry.Entry.{Entry}
-use Rattle.law_places.specs.pg_entries.Entry.{brings, covers as covers_entry, joined_to}
-use Rattle.law_places.specs.pg_register.Flag.{brings_news}
-use Rattle.law_places.proofs.pg_house.Truths.{bool_cases}
+use Rattle.pg_run.specs.pg_base.declared.id.FileId.{FileId}
+use Rattle.pg_run.specs.pg_base.Stamp.{UpTo, is_before}
+use Rattle.pg_run.specs.pg_base.Id.{is_same_file}
+use Rattle.pg_run.proofs.pg_base.Orders.{is_before-false, is_same_file-true}
+use Rattle.pg_run.specs.pg_entries.declared.entry.Entry.{Entry}
+use Rattle.pg_run.specs.pg_entries.Entry.{brings, covers as covers_entry, joined_to}
+use Rattle.pg_run.specs.pg_register.Flag.{brings_news}
+use Rattle.pg_run.proofs.pg_house.Truths.{bool_cases}
 use Rattle.theory_listing.specs.Protocol.{AtMost, IsUpTo}
 use Rattle.theory_listing.specs.Rule.{IsToldAt}
-use Rattle.law_places.specs.pg_names.Names.{InodeValue, cell_at, entry_in, is_entry_new, known, own_of, with_joined}
-use Rattle.law_places.proofs.pg_names.Lookups.{joined_other_child, joined_other_dir, joined_own, joined_same, update_frame}
-use Rattle.law_places.proofs.theory_flood_pieces.Choices.{chosen}
-use Rattle.law_places.specs.pg_register.declared.place.Place.{Place}
+use Rattle.pg_run.specs.pg_names.Names.{InodeValue, cell_at, entry_in, is_entry_new, known, own_of, with_joined}
+use Rattle.pg_run.proofs.pg_names.Lookups.{joined_other_child, joined_other_dir, joined_own, joined_same, update_frame}
+use Rattle.pg_run.proofs.theory_flood_pieces.Choices.{chosen}
+use Rattle.pg_run.specs.pg_register.declared.place.Place.{Place}
 use Rattle.theory_listing_house.specs.Listing.{cell_place, own_place}
 use Rattle.theory_listing_house.proofs.Seen.{at_most}
-use Rattle.law_places.specs.pg_store.declared.store.Store.{Store}
-use Rattle.law_places.specs.pg_store.declared.taking.EntryNews.TheVariants as news
-use Rattle.law_places.specs.pg_store.Seen.{removed_of}
-use Rattle.law_places.specs.pg_store.Store.{entry_news, is_held, is_newer_entry, news_beside, news_in, put_entry, take_entry}
-use Rattle.law_places.specs.pg_pieces.Taking.{is_place_news}
+use Rattle.pg_run.specs.pg_store.declared.store.Store.{Store}
+use Rattle.pg_run.specs.pg_store.declared.taking.EntryNews.TheVariants as news
+use Rattle.pg_run.specs.pg_store.Seen.{removed_of}
+use Rattle.pg_run.specs.pg_store.Store.{entry_news, is_held, is_newer_entry, news_beside, news_in, put_entry, take_entry}
+use Rattle.pg_run.specs.pg_pieces.Taking.{is_place_news}
 use Rattle.law_listings.proofs.PlacesAlone.{of_places}
 
 -- a stamp of one place is at most that of a later one

@@ -2,43 +2,43 @@
 -- it.
 use Rattle.std.proofs.Common.{ℕ, ◌≡◌, true, false, cond, List, None, Some, is_some, refl, sym, ap, ◌∙◌, inl, inr, ◌⊎◌}
 use Rattle.std.proofs.lemmas.Option.{none-some, same_Some}
-use Rattle.law_places.specs.pg_base.declared.id.FileId.{FileId}
-use Rattle.law_places.specs.pg_base.declared.stamp.Stamp.{Stamp}
-use Rattle.law_places.specs.pg_base.Id.{is_same_file}
-use Rattle.law_places.proofs.pg_base.Orders.{is_same_file-true}
-use Rattle.law_places.proofs.pg_content.Stamps.{same_stamp}
-use Rattle.law_places.specs.pg_edges.declared.edge.Edge.{Edge}
-use Rattle.law_places.proofs.pg_house.Truths.{bool_cases}
-use Rattle.law_places.specs.pg_intent.declared.intent.Intent.{Intent}
-use Rattle.law_places.specs.pg_intent.declared.key.IntentKey.{IntentKey}
-use Rattle.law_places.specs.pg_intent.declared.key.IntentKey.TheVariants as intent_key
-use Rattle.law_places.specs.pg_intent.Intent.{key_of}
-use Rattle.law_places.specs.pg_intent.Intents.{begun, begun_on, ended, intent_at}
-use Rattle.law_places.specs.pg_intent.Key.{is_same_key}
-use Rattle.law_places.proofs.pg_intent.Found.{begun_found, ended_found, stands_is}
+use Rattle.pg_run.specs.pg_base.declared.id.FileId.{FileId}
+use Rattle.pg_run.specs.pg_base.declared.stamp.Stamp.{Stamp}
+use Rattle.pg_run.specs.pg_base.Id.{is_same_file}
+use Rattle.pg_run.proofs.pg_base.Orders.{is_same_file-true}
+use Rattle.pg_run.proofs.pg_content.Stamps.{same_stamp}
+use Rattle.pg_run.specs.pg_edges.declared.edge.Edge.{Edge}
+use Rattle.pg_run.proofs.pg_house.Truths.{bool_cases}
+use Rattle.pg_run.specs.pg_intent.declared.intent.Intent.{Intent}
+use Rattle.pg_run.specs.pg_intent.declared.key.IntentKey.{IntentKey}
+use Rattle.pg_run.specs.pg_intent.declared.key.IntentKey.TheVariants as intent_key
+use Rattle.pg_run.specs.pg_intent.Intent.{key_of}
+use Rattle.pg_run.specs.pg_intent.Intents.{begun, begun_on, ended, intent_at}
+use Rattle.pg_run.specs.pg_intent.Key.{is_same_key}
+use Rattle.pg_run.proofs.pg_intent.Found.{begun_found, ended_found, stands_is}
 use Rattle.theory_listing.specs.World.Saying.{LeaveOk}
 use Rattle.theory_listing.proofs.Handlers.{gone_first}
-use Rattle.law_places.specs.pg_msg.declared.message.Ends.{Ends}
-use Rattle.law_places.specs.pg_msg.declared.work.Work.{Work}
-use Rattle.law_places.specs.pg_names.Names.{entry_in, own_at, own_of, own_or_blank, or_blank}
-use Rattle.law_places.proofs.pg_names.Gone.{gone_cell_other, gone_own_other, gone_same}
-use Rattle.law_places.specs.pg_register.declared.place.Place.{Place}
+use Rattle.pg_run.specs.pg_msg.declared.message.Ends.{Ends}
+use Rattle.pg_run.specs.pg_msg.declared.work.Work.{Work}
+use Rattle.pg_run.specs.pg_names.Names.{entry_in, own_at, own_of, own_or_blank, or_blank}
+use Rattle.pg_run.proofs.pg_names.Gone.{gone_cell_other, gone_own_other, gone_same}
+use Rattle.pg_run.specs.pg_register.declared.place.Place.{Place}
 use Rattle.theory_listing_house.specs.Listing.{cell_place, own_place}
 use Rattle.theory_listing_house.proofs.Seen.{own_is}
-use Rattle.law_places.specs.pg_store.declared.store.Store.{Store}
-use Rattle.law_places.specs.pg_store.Beginning.{let_go, with_intents}
-use Rattle.law_places.specs.pg_store.Births.{birth_of}
-use Rattle.law_places.specs.pg_store.Seen.{view_of}
-use Rattle.law_places.specs.pg_store.Store.{replica_of}
-use Rattle.law_places.specs.pg_pieces.declared.accepting.EdgeUse.TheVariants as manner
-use Rattle.law_places.specs.pg_pieces.Accepting.{accept, is_accepted}
-use Rattle.law_places.specs.pg_pieces.Done.{Done, idle}
-use Rattle.law_places.specs.pg_pieces.Intending.{begin_intent}
-use Rattle.law_places.proofs.theory_flood_pieces.Choices.{chosen}
-use Rattle.law_places.specs.pg_run.Intending.{IntendsInOrder}
-use Rattle.law_places.proofs.pg_run.Bags.{All-every}
-use Rattle.law_places.specs.pg_graph.Leaving.{begin_byes, bye_ok, bye_to, goes, leave, leave_given, leave_ok, without_leave}
-use Rattle.law_places.proofs.pg_graph.LeaveOk.{IsAnswered, byes_by, leave_ok_by}
+use Rattle.pg_run.specs.pg_store.declared.store.Store.{Store}
+use Rattle.pg_run.specs.pg_store.Beginning.{let_go, with_intents}
+use Rattle.pg_run.specs.pg_store.Births.{birth_of}
+use Rattle.pg_run.specs.pg_store.Seen.{view_of}
+use Rattle.pg_run.specs.pg_store.Store.{replica_of}
+use Rattle.pg_run.specs.pg_pieces.declared.accepting.EdgeUse.TheVariants as manner
+use Rattle.pg_run.specs.pg_pieces.Accepting.{accept, is_accepted}
+use Rattle.pg_run.specs.pg_pieces.Done.{Done, idle}
+use Rattle.pg_run.specs.pg_pieces.Intending.{begin_intent}
+use Rattle.pg_run.proofs.theory_flood_pieces.Choices.{chosen}
+use Rattle.pg_run.specs.Intending.{IntendsInOrder}
+use Rattle.pg_run.proofs.Bags.{All-every}
+use Rattle.pg_run.specs.pg_graph.Leaving.{begin_byes, bye_ok, bye_to, goes, leave, leave_given, leave_ok, without_leave}
+use Rattle.pg_run.proofs.pg_graph.LeaveOk.{IsAnswered, byes_by, leave_ok_by}
 use Rattle.law_listings.specs.Letters.{Letter, patch_place}
 use Rattle.law_listings.proofs.Alike.{Alike, Alike-refl, Alike-trans, before_alike, behind_alike}
 use Rattle.law_listings.proofs.Heard.{IsBehind, IsFirst, alike_is, idle_first, plainly}

@@ -1,31 +1,31 @@
 -- The first part of a step in which what was lost is given up.
 use Rattle.std.proofs.Common.{ℕ, ◌≡◌, true, false, length, List, [], ◌∷◌, Option, None, Some, refl, sym, ap, subst, ◌∙◌, inl, inr, ◌⊎◌}
 use Rattle.std.proofs.lemmas.Option.{same_Some}
-use Rattle.law_places.specs.pg_base.declared.id.FileId.{FileId}
-use Rattle.law_places.specs.pg_base.declared.policy.Policy.TheVariants.{Last}
-use Rattle.law_places.specs.pg_calls.Forgetting.{bare_entry, begin_lost, begun_at, begun_with, dead_at, dead_by, dirs_of, fill_lost, forget_lost, has_blank_place, is_wanted, last_listing, last_place, mark, marked_each, placed_lost, root_place, strike_out, struck_out, unfilled, unwished}
-use Rattle.law_places.specs.pg_calls.Making.{make_place}
-use Rattle.law_places.specs.pg_calls.Naming.{raised}
-use Rattle.law_places.specs.pg_pieces.Done.{Done, idle}
-use Rattle.law_places.specs.pg_entries.declared.entry.Entry.{Entry}
-use Rattle.law_places.specs.pg_house.Facts.{IsOneOf}
-use Rattle.law_places.specs.pg_intent.declared.key.IntentKey.TheVariants as intent_key
-use Rattle.law_places.specs.pg_intent.Intents.{intent_at, stands}
-use Rattle.law_places.proofs.pg_intent.Found.{ended_found}
+use Rattle.pg_run.specs.pg_base.declared.id.FileId.{FileId}
+use Rattle.pg_run.specs.pg_base.declared.policy.Policy.TheVariants.{Last}
+use Rattle.pg_run.specs.pg_calls.Forgetting.{bare_entry, begin_lost, begun_at, begun_with, dead_at, dead_by, dirs_of, fill_lost, forget_lost, has_blank_place, is_wanted, last_listing, last_place, mark, marked_each, placed_lost, root_place, strike_out, struck_out, unfilled, unwished}
+use Rattle.pg_run.specs.pg_calls.Making.{make_place}
+use Rattle.pg_run.specs.pg_calls.Naming.{raised}
+use Rattle.pg_run.specs.pg_pieces.Done.{Done, idle}
+use Rattle.pg_run.specs.pg_entries.declared.entry.Entry.{Entry}
+use Rattle.pg_run.specs.pg_house.Facts.{IsOneOf}
+use Rattle.pg_run.specs.pg_intent.declared.key.IntentKey.TheVariants as intent_key
+use Rattle.pg_run.specs.pg_intent.Intents.{intent_at, stands}
+use Rattle.pg_run.proofs.pg_intent.Found.{ended_found}
 use Rattle.theory_listing.specs.Rule.{IsToldAt}
 use Rattle.theory_listing.proofs.Handlers.{cells_first}
-use Rattle.law_places.specs.pg_msg.declared.update.Update.TheVariants as update
-use Rattle.law_places.specs.pg_msg.declared.work.Work.{Work}
-use Rattle.law_places.specs.pg_msg.Work.{new_work, with_made}
-use Rattle.law_places.specs.pg_names.declared.attributes.Attributes.{Attributes}
-use Rattle.law_places.specs.pg_names.Names.{blank_own, cell_at, is_dir}
-use Rattle.law_places.proofs.theory_flood_pieces.Choices.{chosen, decided}
-use Rattle.law_places.specs.pg_register.declared.place.Place.{Place}
-use Rattle.law_places.specs.pg_run.Intending.{IntendsInOrder, PatchesStand}
-use Rattle.law_places.specs.pg_store.declared.store.Store.{Store}
-use Rattle.law_places.specs.pg_store.Births.{draw_birth, with_birth}
-use Rattle.law_places.specs.pg_store.Seen.{removed_of, view_of}
-use Rattle.law_places.specs.pg_store.Store.{is_held, take_entry}
+use Rattle.pg_run.specs.pg_msg.declared.update.Update.TheVariants as update
+use Rattle.pg_run.specs.pg_msg.declared.work.Work.{Work}
+use Rattle.pg_run.specs.pg_msg.Work.{new_work, with_made}
+use Rattle.pg_run.specs.pg_names.declared.attributes.Attributes.{Attributes}
+use Rattle.pg_run.specs.pg_names.Names.{blank_own, cell_at, is_dir}
+use Rattle.pg_run.proofs.theory_flood_pieces.Choices.{chosen, decided}
+use Rattle.pg_run.specs.pg_register.declared.place.Place.{Place}
+use Rattle.pg_run.specs.Intending.{IntendsInOrder, PatchesStand}
+use Rattle.pg_run.specs.pg_store.declared.store.Store.{Store}
+use Rattle.pg_run.specs.pg_store.Births.{draw_birth, with_birth}
+use Rattle.pg_run.specs.pg_store.Seen.{removed_of, view_of}
+use Rattle.pg_run.specs.pg_store.Store.{is_held, take_entry}
 use Rattle.law_listings.specs.Letters.{Letter, patch_place}
 use Rattle.law_listings.proofs.Alike.{Alike, Alike-refl, Alike-trans, alike_by, alike_first, before_alike, behind_alike}
 use Rattle.law_listings.proofs.Heard.{IsBehind, IsFirst, idle_first, plainly}

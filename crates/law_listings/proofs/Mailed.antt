@@ -1,21 +1,21 @@
 -- Each message that was ever sent has a letter, by what its sender held.
 use Rattle.std.proofs.Common.{ℕ, ◌≡◌, Option, Some, List, [], ◌∷◌, ◌++◌, map, All, refl, sym, ap, subst, ◌∙◌, inl, inr}
 use Rattle.std.proofs.lemmas.List.Elements.{All-append, All-weaker}
-use Rattle.law_places.specs.pg_base.declared.id.FileId.{FileId}
-use Rattle.law_places.specs.pg_base.declared.stamp.Stamp.{Stamp}
-use Rattle.law_places.specs.pg_content.Content.{Among as IsAmong}
-use Rattle.law_places.proofs.pg_content.Members.{all_among, among_all}
-use Rattle.law_places.specs.pg_event.declared.event.Event.{Event}
+use Rattle.pg_run.specs.pg_base.declared.id.FileId.{FileId}
+use Rattle.pg_run.specs.pg_base.declared.stamp.Stamp.{Stamp}
+use Rattle.pg_run.specs.pg_content.Content.{Among as IsAmong}
+use Rattle.pg_run.proofs.pg_content.Members.{all_among, among_all}
+use Rattle.pg_run.specs.pg_event.declared.event.Event.{Event}
 use Rattle.theory_listing.specs.World.{Among}
-use Rattle.law_places.specs.pg_msg.declared.message.Ends.{Ends}
-use Rattle.law_places.specs.pg_msg.declared.message.Message.TheVariants as message
-use Rattle.law_places.specs.pg_msg.declared.message.Sent.{Sent}
-use Rattle.law_places.specs.pg_names.declared.attributes.Attributes.{Attributes}
-use Rattle.law_places.specs.pg_names.Names.{or_blank, own_at}
-use Rattle.law_places.specs.pg_register.declared.place.Place.{Place}
-use Rattle.law_places.specs.pg_store.declared.store.Store.{Store}
-use Rattle.law_places.specs.pg_run.Known.{IsPlaceOf}
-use Rattle.law_places.specs.pg_run.Run.{Step, Taking, World, next, run, run_from, start, taking_in, world_after}
+use Rattle.pg_run.specs.pg_msg.declared.message.Ends.{Ends}
+use Rattle.pg_run.specs.pg_msg.declared.message.Message.TheVariants as message
+use Rattle.pg_run.specs.pg_msg.declared.message.Sent.{Sent}
+use Rattle.pg_run.specs.pg_names.declared.attributes.Attributes.{Attributes}
+use Rattle.pg_run.specs.pg_names.Names.{or_blank, own_at}
+use Rattle.pg_run.specs.pg_register.declared.place.Place.{Place}
+use Rattle.pg_run.specs.pg_store.declared.store.Store.{Store}
+use Rattle.pg_run.specs.Known.{IsPlaceOf}
+use Rattle.pg_run.specs.Run.{Step, Taking, World, next, run, run_from, start, taking_in, world_after}
 use Rattle.law_listings.specs.Laws.{HasLetter}
 use Rattle.law_listings.specs.Letters.{Letter, letter, letters, letters_by, letters_from, place_of}
 use Rattle.law_listings.proofs.Plain.{IsSentStamped, IsStamped}

@@ -1,35 +1,35 @@
 -- A place comes to a thing: the first part of a step, and what is noted.
 use Rattle.std.proofs.Common.{ℕ, List, length, ◌≡◌, ◌≢◌, Bool, true, false, cond, Option, None, Some, refl, sym, ap, subst, ◌∙◌, inl, inr, ◌⊎◌}
 use Rattle.std.proofs.lemmas.Option.{none-some, same_Some}
-use Rattle.law_places.specs.pg_base.declared.id.FileId.{FileId}
-use Rattle.law_places.specs.pg_base.Id.{is_same_file}
-use Rattle.law_places.specs.pg_base.Stamp.{is_before}
-use Rattle.law_places.proofs.pg_base.Orders.{is_same_file-true}
-use Rattle.law_places.specs.pg_edges.declared.key.Key.{Key}
-use Rattle.law_places.specs.pg_edges.declared.key.Key.TheVariants as key
-use Rattle.law_places.specs.pg_house.Work.{is_root, note_left}
-use Rattle.law_places.specs.pg_house.Facts.{IsLeft, IsOneOf}
-use Rattle.law_places.proofs.pg_house.Noting.{noted_live, noted_stays}
-use Rattle.law_places.proofs.pg_house.Truths.{bool_cases}
-use Rattle.law_places.specs.pg_intent.declared.key.IntentKey.TheVariants as intent_key
-use Rattle.law_places.specs.pg_intent.Intents.{intent_at, stands}
+use Rattle.pg_run.specs.pg_base.declared.id.FileId.{FileId}
+use Rattle.pg_run.specs.pg_base.Id.{is_same_file}
+use Rattle.pg_run.specs.pg_base.Stamp.{is_before}
+use Rattle.pg_run.proofs.pg_base.Orders.{is_same_file-true}
+use Rattle.pg_run.specs.pg_edges.declared.key.Key.{Key}
+use Rattle.pg_run.specs.pg_edges.declared.key.Key.TheVariants as key
+use Rattle.pg_run.specs.pg_house.Work.{is_root, note_left}
+use Rattle.pg_run.specs.pg_house.Facts.{IsLeft, IsOneOf}
+use Rattle.pg_run.proofs.pg_house.Noting.{noted_live, noted_stays}
+use Rattle.pg_run.proofs.pg_house.Truths.{bool_cases}
+use Rattle.pg_run.specs.pg_intent.declared.key.IntentKey.TheVariants as intent_key
+use Rattle.pg_run.specs.pg_intent.Intents.{intent_at, stands}
 use Rattle.theory_listing.specs.Protocol.{IsUpTo}
 use Rattle.theory_listing.proofs.Handlers.{placed_first}
-use Rattle.law_places.specs.pg_msg.declared.work.Slot.{Slot}
-use Rattle.law_places.specs.pg_msg.declared.work.Work.{Work}
-use Rattle.law_places.specs.pg_names.declared.attributes.Attributes.{Attributes}
-use Rattle.law_places.specs.pg_names.Names.{cell_at, is_place_new, join_place, own_at, own_or_blank, or_blank, with_place}
-use Rattle.law_places.proofs.pg_names.Lookups.{known_absent, own_with_place, place_cell, place_other, place_same, update_frame}
-use Rattle.law_places.proofs.theory_flood_pieces.Choices.{chosen}
-use Rattle.law_places.specs.pg_register.declared.place.Place.{Place}
-use Rattle.law_places.specs.pg_register.Place.{newer_place, root}
+use Rattle.pg_run.specs.pg_msg.declared.work.Slot.{Slot}
+use Rattle.pg_run.specs.pg_msg.declared.work.Work.{Work}
+use Rattle.pg_run.specs.pg_names.declared.attributes.Attributes.{Attributes}
+use Rattle.pg_run.specs.pg_names.Names.{cell_at, is_place_new, join_place, own_at, own_or_blank, or_blank, with_place}
+use Rattle.pg_run.proofs.pg_names.Lookups.{known_absent, own_with_place, place_cell, place_other, place_same, update_frame}
+use Rattle.pg_run.proofs.theory_flood_pieces.Choices.{chosen}
+use Rattle.pg_run.specs.pg_register.declared.place.Place.{Place}
+use Rattle.pg_run.specs.pg_register.Place.{newer_place, root}
 use Rattle.theory_listing_house.specs.Listing.{cell_place, own_place}
 use Rattle.theory_listing_house.proofs.Seen.{apart}
-use Rattle.law_places.specs.pg_store.declared.store.Store.{Store}
-use Rattle.law_places.specs.pg_store.Seen.{removed_of, view_of}
-use Rattle.law_places.specs.pg_store.Store.{is_newer_place, put_place, take_place}
-use Rattle.law_places.specs.pg_pieces.Done.{Done}
-use Rattle.law_places.specs.pg_pieces.Taking.{take_place_noted, with_left_if, with_news}
+use Rattle.pg_run.specs.pg_store.declared.store.Store.{Store}
+use Rattle.pg_run.specs.pg_store.Seen.{removed_of, view_of}
+use Rattle.pg_run.specs.pg_store.Store.{is_newer_place, put_place, take_place}
+use Rattle.pg_run.specs.pg_pieces.Done.{Done}
+use Rattle.pg_run.specs.pg_pieces.Taking.{take_place_noted, with_left_if, with_news}
 use Rattle.law_listings.specs.Letters.{Letter, patch_place}
 use Rattle.law_listings.proofs.PlacesAlone.{IsPart, of_places}
 

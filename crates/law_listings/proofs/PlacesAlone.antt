@@ -1,16 +1,16 @@
 -- Places alone, of servers of which births are not seen: what a handler does to them is the first
 -- part of a step, where the births go on too.
 use Rattle.std.proofs.Common.{ℕ, ◌≡◌, None}
-use Rattle.law_places.specs.pg_base.declared.id.FileId.{FileId}
-use Rattle.law_places.specs.pg_base.declared.stamp.Stamp.{Stamp}
+use Rattle.pg_run.specs.pg_base.declared.id.FileId.{FileId}
+use Rattle.pg_run.specs.pg_base.declared.stamp.Stamp.{Stamp}
 use Rattle.theory_listing.specs.Protocol.{IsIn, Lists, Protocol}
 use Rattle.theory_listing.specs.Parts.{FirstPart}
 use Rattle.theory_listing.specs.Rule.{Holds}
-use Rattle.law_places.specs.pg_register.declared.place.Place.{Place}
+use Rattle.pg_run.specs.pg_register.declared.place.Place.{Place}
 use Rattle.theory_listing_house.specs.Listing.{Beside, listing_of}
-use Rattle.law_places.specs.pg_store.declared.store.Store.{Store}
-use Rattle.law_places.specs.pg_store.Births.{birth_of}
-use Rattle.law_places.specs.pg_store.Together.{IsOver}
+use Rattle.pg_run.specs.pg_store.declared.store.Store.{Store}
+use Rattle.pg_run.specs.pg_store.Births.{birth_of}
+use Rattle.pg_run.specs.pg_store.Together.{IsOver}
 use Rattle.law_listings.specs.Letters.{Letter, beside, of_stores}
 
 -- as servers are seen, but of one birth, which any may have behind it

@@ -1,25 +1,25 @@
 -- Messages that tell of no place, and works that send no other.
 use Rattle.std.proofs.Common.{ℕ, ◌≡◌, List, [], ◌∷◌, Some, refl, All, ◌==◌, ◌/◌, ◌%◌, true, length, slice_get, Option, None}
 use Rattle.std.proofs.lemmas.List.Elements.{All-append, All-cons, All-nil}
-use Rattle.law_places.specs.pg_base.declared.id.FileId.{FileId}
+use Rattle.pg_run.specs.pg_base.declared.id.FileId.{FileId}
 use Rattle.theory_listing.specs.World.Saying.{Other}
-use Rattle.law_places.specs.pg_msg.declared.message.Message.{Message}
-use Rattle.law_places.specs.pg_msg.declared.message.Message.TheVariants as message
-use Rattle.law_places.specs.pg_msg.declared.message.Sent.{Sent}
-use Rattle.law_places.specs.pg_msg.declared.work.Work.{Work}
-use Rattle.law_places.specs.pg_msg.Work.{new_work}
-use Rattle.law_places.specs.pg_edges.declared.edge.Edge.{Edge}
-use Rattle.law_places.specs.pg_names.declared.attributes.Attributes.{Attributes}
-use Rattle.law_places.specs.pg_names.Names.{own_at}
-use Rattle.law_places.proofs.theory_flood_pieces.Choices.{chosen}
-use Rattle.law_places.specs.pg_store.declared.store.Store.{Store}
-use Rattle.law_places.specs.pg_store.Births.{birth_of}
-use Rattle.law_places.specs.pg_store.Seen.{server_of}
-use Rattle.law_places.specs.pg_pieces.Posting.{sent_to}
+use Rattle.pg_run.specs.pg_msg.declared.message.Message.{Message}
+use Rattle.pg_run.specs.pg_msg.declared.message.Message.TheVariants as message
+use Rattle.pg_run.specs.pg_msg.declared.message.Sent.{Sent}
+use Rattle.pg_run.specs.pg_msg.declared.work.Work.{Work}
+use Rattle.pg_run.specs.pg_msg.Work.{new_work}
+use Rattle.pg_run.specs.pg_edges.declared.edge.Edge.{Edge}
+use Rattle.pg_run.specs.pg_names.declared.attributes.Attributes.{Attributes}
+use Rattle.pg_run.specs.pg_names.Names.{own_at}
+use Rattle.pg_run.proofs.theory_flood_pieces.Choices.{chosen}
+use Rattle.pg_run.specs.pg_store.declared.store.Store.{Store}
+use Rattle.pg_run.specs.pg_store.Births.{birth_of}
+use Rattle.pg_run.specs.pg_store.Seen.{server_of}
+use Rattle.pg_run.specs.pg_pieces.Posting.{sent_to}
 use Rattle.law_listings.specs.Letters.{says}
-use Rattle.law_places.specs.pg_pieces.Accepting.{ends_to}
-use Rattle.law_places.specs.pg_graph.Walks.{edges_of, most_hops, walk_along, walk_from, walk_of, walk_of_tick, with_few_edges}
-use Rattle.law_places.proofs.pg_run.Sends.{is_plain}
+use Rattle.pg_run.specs.pg_pieces.Accepting.{ends_to}
+use Rattle.pg_run.specs.pg_graph.Walks.{edges_of, most_hops, walk_along, walk_from, walk_of, walk_of_tick, with_few_edges}
+use Rattle.pg_run.proofs.Sends.{is_plain}
 use Rattle.std.proofs.lemmas.Bool.{false≢true}
 
 -- a LeaveOk is from the server that held this, and tells the stamp of the place that it had

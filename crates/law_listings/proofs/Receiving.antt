@@ -2,66 +2,66 @@
 use Rattle.std.proofs.Common.{ℕ, ◌≡◌, ◌==◌, ◌&&◌, not, Bool, true, false, cond, List, Option, None, Some, is_some, refl, sym, ap, subst, ◌∙◌, inl, inr, ◌⊎◌}
 use Rattle.std.proofs.lemmas.Bool.{and_parts, false≢true}
 use Rattle.std.proofs.lemmas.Option.{same_Some}
-use Rattle.law_places.specs.pg_base.declared.id.FileId.{FileId}
-use Rattle.law_places.specs.pg_base.declared.stamp.Stamp.{Stamp}
-use Rattle.law_places.specs.pg_base.Id.{is_same_file}
-use Rattle.law_places.proofs.pg_base.Orders.{is_same_file-true}
-use Rattle.law_places.specs.pg_edges.declared.edge.Edge.{Edge}
-use Rattle.law_places.specs.pg_content.History.{is_same_stamp}
-use Rattle.law_places.proofs.pg_content.Stamps.{same_stamp}
-use Rattle.law_places.specs.pg_entries.declared.cell.Cell.{Cell}
-use Rattle.law_places.specs.pg_entries.declared.cell.Cell.TheVariants as cells
-use Rattle.law_places.specs.pg_entries.declared.entry.Entry.{Entry}
-use Rattle.law_places.specs.pg_house.Facts.{IsOneOf}
-use Rattle.law_places.specs.pg_house.Work.{is_root}
-use Rattle.law_places.specs.pg_intent.declared.intent.Intent.{Intent}
-use Rattle.law_places.specs.pg_intent.declared.intent.Intent.TheVariants as intent
-use Rattle.law_places.specs.pg_intent.declared.key.IntentKey.{IntentKey}
-use Rattle.law_places.specs.pg_intent.declared.key.IntentKey.TheVariants as intent_key
-use Rattle.law_places.specs.pg_intent.Intents.{aimed, ended, intent_at}
-use Rattle.law_places.proofs.pg_intent.Found.{ended_found, stands_is}
+use Rattle.pg_run.specs.pg_base.declared.id.FileId.{FileId}
+use Rattle.pg_run.specs.pg_base.declared.stamp.Stamp.{Stamp}
+use Rattle.pg_run.specs.pg_base.Id.{is_same_file}
+use Rattle.pg_run.proofs.pg_base.Orders.{is_same_file-true}
+use Rattle.pg_run.specs.pg_edges.declared.edge.Edge.{Edge}
+use Rattle.pg_run.specs.pg_content.History.{is_same_stamp}
+use Rattle.pg_run.proofs.pg_content.Stamps.{same_stamp}
+use Rattle.pg_run.specs.pg_entries.declared.cell.Cell.{Cell}
+use Rattle.pg_run.specs.pg_entries.declared.cell.Cell.TheVariants as cells
+use Rattle.pg_run.specs.pg_entries.declared.entry.Entry.{Entry}
+use Rattle.pg_run.specs.pg_house.Facts.{IsOneOf}
+use Rattle.pg_run.specs.pg_house.Work.{is_root}
+use Rattle.pg_run.specs.pg_intent.declared.intent.Intent.{Intent}
+use Rattle.pg_run.specs.pg_intent.declared.intent.Intent.TheVariants as intent
+use Rattle.pg_run.specs.pg_intent.declared.key.IntentKey.{IntentKey}
+use Rattle.pg_run.specs.pg_intent.declared.key.IntentKey.TheVariants as intent_key
+use Rattle.pg_run.specs.pg_intent.Intents.{aimed, ended, intent_at}
+use Rattle.pg_run.proofs.pg_intent.Found.{ended_found, stands_is}
 use Rattle.theory_listing.specs.Protocol.{AtLeast}
 use Rattle.theory_listing.specs.World.Saying.{TellOk, Told}
 use Rattle.theory_listing.specs.World.Way.{PlaceIs, SureCell, Tell}
 use Rattle.theory_listing.proofs.Handlers.{calm_first}
-use Rattle.law_places.specs.pg_msg.declared.message.Ask.{Ask}
-use Rattle.law_places.specs.pg_msg.declared.message.Ends.{Ends}
-use Rattle.law_places.specs.pg_msg.declared.message.Granted.{Granted}
-use Rattle.law_places.specs.pg_msg.declared.message.Message.{Message}
-use Rattle.law_places.specs.pg_msg.declared.message.Message.TheVariants as message
-use Rattle.law_places.specs.pg_msg.declared.work.Work.{Work}
-use Rattle.law_places.proofs.theory_flood_pieces.Choices.{chosen, decided}
-use Rattle.law_places.specs.pg_register.declared.place.Place.{Place}
-use Rattle.law_places.specs.pg_run.Intending.{IntendsInOrder}
-use Rattle.law_places.proofs.pg_run.Transfers.{KeepsTransfers, delta_keeps, harbinger_keeps, later_keeps, piece_keeps, want_keeps}
-use Rattle.law_places.specs.pg_server.Local.{receive}
-use Rattle.law_places.specs.pg_server.pg_transfer.Asking.{with_notes}
-use Rattle.law_places.specs.pg_server.pg_transfer.Delta.{delta}
-use Rattle.law_places.specs.pg_server.pg_transfer.Harbinger.{harbinger}
-use Rattle.law_places.specs.pg_server.pg_transfer.Later.{later}
-use Rattle.law_places.specs.pg_server.pg_transfer.Piece.{piece}
-use Rattle.law_places.specs.pg_server.pg_transfer.Want.{want}
-use Rattle.law_places.specs.pg_store.declared.store.Store.{Store}
-use Rattle.law_places.specs.pg_store.Beginning.{with_intents}
-use Rattle.law_places.specs.pg_store.Births.{is_pending}
-use Rattle.law_places.specs.pg_store.Links.{knows_later}
-use Rattle.law_places.specs.pg_store.Seen.{server_of, view_of}
-use Rattle.law_places.specs.pg_store.Servers.{next_target}
-use Rattle.law_places.specs.pg_store.Store.{is_full, is_held, keep_delta}
-use Rattle.law_places.proofs.pg_store.Given.{pending_may}
-use Rattle.law_places.specs.pg_pieces.declared.accepting.EdgeUse.TheVariants as manner
-use Rattle.law_places.specs.pg_pieces.Accepting.{accept, is_accepted, link_peer}
-use Rattle.law_places.specs.pg_cells.Cells.{cell as take_cell, fits, taken, taken_along}
-use Rattle.law_places.specs.pg_pieces.Done.{Done, idle}
-use Rattle.law_places.specs.pg_pieces.Taking.{take_entry_noted, take_place_noted}
-use Rattle.law_places.specs.pg_repair.Confirming.{confirm, confirmed, place_is, place_told, take_told_flags, take_told_place}
-use Rattle.law_places.specs.pg_repair.Fetching.{answer_fetch, fetch}
-use Rattle.law_places.specs.pg_repair.Filling.{fill, full, invite}
-use Rattle.law_places.specs.pg_repair.Granting.{aim_fill, begin_granted, begun_by, grant, granted_own, no_grant, turn_wish}
-use Rattle.law_places.specs.pg_repair.NoneHere.{asking_key, does_ask, none_here}
-use Rattle.law_places.specs.pg_graph.Seeking.{answered_seek, seek}
-use Rattle.law_places.specs.pg_repair.Telling.{is_told, tell, tell_ok, told}
-use Rattle.law_places.specs.pg_graph.Walks.{goes_on, meet_origin, onward, walk, walk_on, walked}
+use Rattle.pg_run.specs.pg_msg.declared.message.Ask.{Ask}
+use Rattle.pg_run.specs.pg_msg.declared.message.Ends.{Ends}
+use Rattle.pg_run.specs.pg_msg.declared.message.Granted.{Granted}
+use Rattle.pg_run.specs.pg_msg.declared.message.Message.{Message}
+use Rattle.pg_run.specs.pg_msg.declared.message.Message.TheVariants as message
+use Rattle.pg_run.specs.pg_msg.declared.work.Work.{Work}
+use Rattle.pg_run.proofs.theory_flood_pieces.Choices.{chosen, decided}
+use Rattle.pg_run.specs.pg_register.declared.place.Place.{Place}
+use Rattle.pg_run.specs.Intending.{IntendsInOrder}
+use Rattle.pg_run.proofs.Transfers.{KeepsTransfers, delta_keeps, harbinger_keeps, later_keeps, piece_keeps, want_keeps}
+use Rattle.pg_run.specs.pg_server.Local.{receive}
+use Rattle.pg_run.specs.pg_server.pg_transfer.Asking.{with_notes}
+use Rattle.pg_run.specs.pg_server.pg_transfer.Delta.{delta}
+use Rattle.pg_run.specs.pg_server.pg_transfer.Harbinger.{harbinger}
+use Rattle.pg_run.specs.pg_server.pg_transfer.Later.{later}
+use Rattle.pg_run.specs.pg_server.pg_transfer.Piece.{piece}
+use Rattle.pg_run.specs.pg_server.pg_transfer.Want.{want}
+use Rattle.pg_run.specs.pg_store.declared.store.Store.{Store}
+use Rattle.pg_run.specs.pg_store.Beginning.{with_intents}
+use Rattle.pg_run.specs.pg_store.Births.{is_pending}
+use Rattle.pg_run.specs.pg_store.Links.{knows_later}
+use Rattle.pg_run.specs.pg_store.Seen.{server_of, view_of}
+use Rattle.pg_run.specs.pg_store.Servers.{next_target}
+use Rattle.pg_run.specs.pg_store.Store.{is_full, is_held, keep_delta}
+use Rattle.pg_run.proofs.pg_store.Given.{pending_may}
+use Rattle.pg_run.specs.pg_pieces.declared.accepting.EdgeUse.TheVariants as manner
+use Rattle.pg_run.specs.pg_pieces.Accepting.{accept, is_accepted, link_peer}
+use Rattle.pg_run.specs.pg_cells.Cells.{cell as take_cell, fits, taken, taken_along}
+use Rattle.pg_run.specs.pg_pieces.Done.{Done, idle}
+use Rattle.pg_run.specs.pg_pieces.Taking.{take_entry_noted, take_place_noted}
+use Rattle.pg_run.specs.pg_repair.Confirming.{confirm, confirmed, place_is, place_told, take_told_flags, take_told_place}
+use Rattle.pg_run.specs.pg_repair.Fetching.{answer_fetch, fetch}
+use Rattle.pg_run.specs.pg_repair.Filling.{fill, full, invite}
+use Rattle.pg_run.specs.pg_repair.Granting.{aim_fill, begin_granted, begun_by, grant, granted_own, no_grant, turn_wish}
+use Rattle.pg_run.specs.pg_repair.NoneHere.{asking_key, does_ask, none_here}
+use Rattle.pg_run.specs.pg_graph.Seeking.{answered_seek, seek}
+use Rattle.pg_run.specs.pg_repair.Telling.{is_told, tell, tell_ok, told}
+use Rattle.pg_run.specs.pg_graph.Walks.{goes_on, meet_origin, onward, walk, walk_on, walked}
 use Rattle.law_listings.specs.Letters.{Letter, patch_place, place_of, says, told_by}
 use Rattle.law_listings.proofs.PlacesAlone.{IsPart, of_places}
 use Rattle.law_listings.proofs.Alike.{Alike, Alike-refl, Alike-trans, alike_by, alike_first, before_alike}

@@ -5,53 +5,53 @@ use Rattle.std.proofs.lemmas.List.{length-append}
 use Rattle.std.proofs.lemmas.List.Elements.{All-contains_itself, All-nil, All-weaker}
 use Rattle.std.proofs.lemmas.Option.{none-some}
 use Rattle.std.proofs.lemmas.Bool.{and_from}
-use Rattle.law_places.specs.pg_base.declared.id.FileId.{FileId}
-use Rattle.law_places.specs.pg_base.Id.{is_same_file}
-use Rattle.law_places.specs.pg_base.Stamp.{is_before}
-use Rattle.law_places.proofs.pg_base.Orders.{is_same_file-true}
-use Rattle.law_places.proofs.pg_content.Members.{all_among}
-use Rattle.law_places.specs.pg_entries.declared.entry.Entry.{Entry}
-use Rattle.law_places.specs.pg_event.declared.event.Event.{Event}
-use Rattle.law_places.specs.pg_event.declared.event.Event.TheVariants as happening
-use Rattle.law_places.specs.pg_event.declared.entry.VoidCause.{VoidCause}
-use Rattle.law_places.proofs.theory_flood.Flood.{after_itself}
-use Rattle.law_places.specs.pg_house.Holding.{waits}
-use Rattle.law_places.specs.pg_house.Passing.{greatest}
-use Rattle.law_places.specs.pg_house.Facts.{IsPassed}
-use Rattle.law_places.proofs.pg_house.Going.{HaveChildren}
+use Rattle.pg_run.specs.pg_base.declared.id.FileId.{FileId}
+use Rattle.pg_run.specs.pg_base.Id.{is_same_file}
+use Rattle.pg_run.specs.pg_base.Stamp.{is_before}
+use Rattle.pg_run.proofs.pg_base.Orders.{is_same_file-true}
+use Rattle.pg_run.proofs.pg_content.Members.{all_among}
+use Rattle.pg_run.specs.pg_entries.declared.entry.Entry.{Entry}
+use Rattle.pg_run.specs.pg_event.declared.event.Event.{Event}
+use Rattle.pg_run.specs.pg_event.declared.event.Event.TheVariants as happening
+use Rattle.pg_run.specs.pg_event.declared.entry.VoidCause.{VoidCause}
+use Rattle.pg_run.proofs.theory_flood.Flood.{after_itself}
+use Rattle.pg_run.specs.pg_house.Holding.{waits}
+use Rattle.pg_run.specs.pg_house.Passing.{greatest}
+use Rattle.pg_run.specs.pg_house.Facts.{IsPassed}
+use Rattle.pg_run.proofs.pg_house.Going.{HaveChildren}
 use Rattle.theory_listing.specs.Promises.{Kept}
 use Rattle.theory_listing.specs.World.{stepped}
 use Rattle.theory_listing.specs.Runs.{IsStep, removed}
 use Rattle.theory_listing.proofs.Promises.{step_keeps}
 use Rattle.theory_listing.proofs.Worlds.{removal_keeps, start_keeps}
-use Rattle.law_places.specs.pg_msg.declared.message.Message.{Message}
-use Rattle.law_places.specs.pg_msg.declared.message.Message.TheVariants as message
-use Rattle.law_places.specs.pg_msg.declared.message.Packet.{Packet}
-use Rattle.law_places.specs.pg_names.declared.attributes.Attributes.{Attributes}
-use Rattle.law_places.specs.pg_names.Names.{cell_at, directories, entry_in, new_names, own_at, own_of}
-use Rattle.law_places.proofs.pg_names.Holding.{begun_known}
+use Rattle.pg_run.specs.pg_msg.declared.message.Message.{Message}
+use Rattle.pg_run.specs.pg_msg.declared.message.Message.TheVariants as message
+use Rattle.pg_run.specs.pg_msg.declared.message.Packet.{Packet}
+use Rattle.pg_run.specs.pg_names.declared.attributes.Attributes.{Attributes}
+use Rattle.pg_run.specs.pg_names.Names.{cell_at, directories, entry_in, new_names, own_at, own_of}
+use Rattle.pg_run.proofs.pg_names.Holding.{begun_known}
 use Rattle.law_places.specs.Laws.{tells}
 use Rattle.law_places.proofs.Worlds.{no_cell, own_first, run_known}
-use Rattle.law_places.specs.pg_register.declared.place.Place.{Place}
-use Rattle.law_places.specs.pg_register.Flag.{is_removed}
-use Rattle.law_places.specs.pg_register.Place.{root}
-use Rattle.law_places.specs.pg_run.Intending.{IntendsInOrder, IntentionsAreInOrder}
-use Rattle.law_places.specs.pg_run.Journal.{mail, removals}
-use Rattle.law_places.specs.pg_run.Known.{IsPlaceOf}
-use Rattle.law_places.specs.pg_run.Run.{Step, is_live, is_server, Taking, World, effect_step, idle_step, next, run, run_from, start, taking_in, world_after}
-use Rattle.law_places.proofs.pg_run.Frame.{Acts, HasCome, IsFramed, acts_is, each_after, framed, next_is, run_more}
-use Rattle.law_places.proofs.pg_run.Lists.{contained_among}
-use Rattle.law_places.proofs.pg_run.Removals.{none_removed}
-use Rattle.law_places.specs.pg_server.declared.input.Input.{Input}
-use Rattle.law_places.specs.pg_server.declared.input.Input.TheVariants as input
-use Rattle.law_places.specs.pg_server.Local.{Effect, effect, first_effect}
+use Rattle.pg_run.specs.pg_register.declared.place.Place.{Place}
+use Rattle.pg_run.specs.pg_register.Flag.{is_removed}
+use Rattle.pg_run.specs.pg_register.Place.{root}
+use Rattle.pg_run.specs.Intending.{IntendsInOrder, IntentionsAreInOrder}
+use Rattle.pg_run.specs.Journal.{mail, removals}
+use Rattle.pg_run.specs.Known.{IsPlaceOf}
+use Rattle.pg_run.specs.Run.{Step, is_live, is_server, Taking, World, effect_step, idle_step, next, run, run_from, start, taking_in, world_after}
+use Rattle.pg_run.proofs.Frame.{Acts, HasCome, IsFramed, acts_is, each_after, framed, next_is, run_more}
+use Rattle.pg_run.proofs.Lists.{contained_among}
+use Rattle.pg_run.proofs.Removals.{none_removed}
+use Rattle.pg_run.specs.pg_server.declared.input.Input.{Input}
+use Rattle.pg_run.specs.pg_server.declared.input.Input.TheVariants as input
+use Rattle.pg_run.specs.pg_server.Local.{Effect, effect, first_effect}
 use Rattle.theory_listing_house.specs.Listing.{cell_place}
 use Rattle.theory_listing_house.proofs.Seen.{cell_is, own_is}
-use Rattle.law_places.specs.pg_store.declared.store.Store.{Store}
-use Rattle.law_places.specs.pg_store.Seen.{removed_of, view_of}
-use Rattle.law_places.specs.pg_store.Start.{root_own}
-use Rattle.law_places.specs.pg_store.Store.{new_store}
-use Rattle.law_places.proofs.pg_store.Pairs.{start_together}
+use Rattle.pg_run.specs.pg_store.declared.store.Store.{Store}
+use Rattle.pg_run.specs.pg_store.Seen.{removed_of, view_of}
+use Rattle.pg_run.specs.pg_store.Start.{root_own}
+use Rattle.pg_run.specs.pg_store.Store.{new_store}
+use Rattle.pg_run.proofs.pg_store.Pairs.{start_together}
 use Rattle.law_listings.specs.Laws.{HasLetter, ListingsAreKept, ListingsStandOn, MessagesHaveLetters}
 use Rattle.law_listings.specs.Letters.{Letter, letter, letters, letters_by, letters_from, listings, of_stores, place_of}
 use Rattle.law_listings.proofs.Births.{AreBirthsOf, not_over}

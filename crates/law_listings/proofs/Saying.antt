@@ -2,46 +2,46 @@
 use Rattle.std.proofs.Common.{ℕ, ◌≡◌, ◌&&◌, true, [], ◌∷◌, Some, refl, sym, ap, subst, ◌∙◌, inl, inr}
 use Rattle.std.proofs.lemmas.Bool.{and_parts}
 use Rattle.std.proofs.lemmas.List.Elements.{All-append, All-cons, All-nil}
-use Rattle.law_places.specs.pg_base.declared.id.FileId.{FileId}
-use Rattle.law_places.specs.pg_base.declared.stamp.Stamp.{Stamp}
-use Rattle.law_places.proofs.pg_calls.Walked.{full_held}
-use Rattle.law_places.proofs.pg_content.Stamps.{same_stamp}
-use Rattle.law_places.specs.pg_entries.declared.entry.Entry.{Entry}
-use Rattle.law_places.specs.pg_house.Work.{is_root}
+use Rattle.pg_run.specs.pg_base.declared.id.FileId.{FileId}
+use Rattle.pg_run.specs.pg_base.declared.stamp.Stamp.{Stamp}
+use Rattle.pg_run.proofs.pg_calls.Walked.{full_held}
+use Rattle.pg_run.proofs.pg_content.Stamps.{same_stamp}
+use Rattle.pg_run.specs.pg_entries.declared.entry.Entry.{Entry}
+use Rattle.pg_run.specs.pg_house.Work.{is_root}
 use Rattle.theory_listing.specs.Protocol.{IsUpTo}
 use Rattle.theory_listing.specs.World.Saying.{Told}
 use Rattle.theory_listing.specs.World.Way.{PlaceIs}
-use Rattle.law_places.specs.pg_msg.declared.message.Ends.{Ends}
-use Rattle.law_places.specs.pg_msg.declared.message.Message.{Message}
-use Rattle.law_places.specs.pg_msg.declared.message.Message.TheVariants as message
-use Rattle.law_places.specs.pg_msg.declared.work.Work.{Work}
-use Rattle.law_places.specs.pg_msg.Work.{new_work}
-use Rattle.law_places.specs.pg_names.declared.attributes.Attributes.{Attributes}
-use Rattle.law_places.specs.pg_names.Same.{is_same_stamp}
-use Rattle.law_places.specs.pg_names.Names.{or_blank, own_at, own_or_blank}
-use Rattle.law_places.proofs.theory_flood_pieces.Choices.{chosen, decided}
-use Rattle.law_places.specs.pg_register.declared.place.Place.{Place}
-use Rattle.law_places.specs.pg_server.Local.{receive}
+use Rattle.pg_run.specs.pg_msg.declared.message.Ends.{Ends}
+use Rattle.pg_run.specs.pg_msg.declared.message.Message.{Message}
+use Rattle.pg_run.specs.pg_msg.declared.message.Message.TheVariants as message
+use Rattle.pg_run.specs.pg_msg.declared.work.Work.{Work}
+use Rattle.pg_run.specs.pg_msg.Work.{new_work}
+use Rattle.pg_run.specs.pg_names.declared.attributes.Attributes.{Attributes}
+use Rattle.pg_run.specs.pg_names.Same.{is_same_stamp}
+use Rattle.pg_run.specs.pg_names.Names.{or_blank, own_at, own_or_blank}
+use Rattle.pg_run.proofs.theory_flood_pieces.Choices.{chosen, decided}
+use Rattle.pg_run.specs.pg_register.declared.place.Place.{Place}
+use Rattle.pg_run.specs.pg_server.Local.{receive}
 use Rattle.theory_listing_house.specs.Listing.{cell_place}
 use Rattle.theory_listing_house.proofs.Seen.{own_is}
-use Rattle.law_places.specs.pg_store.declared.store.Store.{Store}
-use Rattle.law_places.specs.pg_store.Seen.{removed_of, server_of, view_of}
-use Rattle.law_places.specs.pg_store.Store.{is_full, is_held}
-use Rattle.law_places.specs.pg_pieces.Done.{Done, idle}
-use Rattle.law_places.specs.pg_pieces.declared.accepting.EdgeUse.TheVariants as manner
-use Rattle.law_places.specs.pg_pieces.Accepting.{accept, ends_to, is_accepted}
-use Rattle.law_places.specs.pg_pieces.Golds.{is_gold}
-use Rattle.law_places.specs.pg_pieces.Posting.{post, reply, sent_to}
-use Rattle.law_places.specs.pg_graph.Leaving.{gives_leave, leave, leave_given, place_stamp}
-use Rattle.law_places.specs.pg_pieces.Taking.{take_entry_noted, take_place_noted}
-use Rattle.law_places.specs.pg_repair.Confirming.{confirm, own_entry, place_told, take_told_flags, take_told_place}
-use Rattle.law_places.specs.pg_repair.Telling.{tell, told}
+use Rattle.pg_run.specs.pg_store.declared.store.Store.{Store}
+use Rattle.pg_run.specs.pg_store.Seen.{removed_of, server_of, view_of}
+use Rattle.pg_run.specs.pg_store.Store.{is_full, is_held}
+use Rattle.pg_run.specs.pg_pieces.Done.{Done, idle}
+use Rattle.pg_run.specs.pg_pieces.declared.accepting.EdgeUse.TheVariants as manner
+use Rattle.pg_run.specs.pg_pieces.Accepting.{accept, ends_to, is_accepted}
+use Rattle.pg_run.specs.pg_pieces.Golds.{is_gold}
+use Rattle.pg_run.specs.pg_pieces.Posting.{post, reply, sent_to}
+use Rattle.pg_run.specs.pg_graph.Leaving.{gives_leave, leave, leave_given, place_stamp}
+use Rattle.pg_run.specs.pg_pieces.Taking.{take_entry_noted, take_place_noted}
+use Rattle.pg_run.specs.pg_repair.Confirming.{confirm, own_entry, place_told, take_told_flags, take_told_place}
+use Rattle.pg_run.specs.pg_repair.Telling.{tell, told}
 use Rattle.law_listings.specs.Letters.{Letter, of_stores, place_of, says}
 use Rattle.law_listings.proofs.Heard.{IsBehind, none_later}
 use Rattle.law_listings.proofs.Joined.{told_then}
 use Rattle.law_listings.proofs.Alike.{Alike}
-use Rattle.law_places.proofs.pg_run.Sends.{AnswersHave, Fine, accept_fine, entry_fine, received_fine, told_fine}
-use Rattle.law_places.proofs.pg_run.SendsBodies.{AnswersBody}
+use Rattle.pg_run.proofs.Sends.{AnswersHave, Fine, accept_fine, entry_fine, received_fine, told_fine}
+use Rattle.pg_run.proofs.SendsBodies.{AnswersBody}
 use Rattle.law_listings.proofs.Placed.{cell_then, grows_then, removed_then}
 use Rattle.law_listings.proofs.Plain.{IsOther, IsStamped, SendsOthers, other}
 use Rattle.law_listings.proofs.Steps.{IsToldWell, MaySay, Says, WorkSays, others_say}

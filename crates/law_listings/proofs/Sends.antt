@@ -6,45 +6,45 @@ use Rattle.std.specs.Prelude.{nat_lt}
 use Rattle.std.proofs.lemmas.Bool.{false≢true}
 use Rattle.std.proofs.lemmas.List.Elements.{All-append, All-cons, All-nil, All-weaker}
 use Rattle.std.proofs.lemmas.Option.{none-some, same_Some}
-use Rattle.law_places.specs.pg_base.declared.id.FileId.{FileId}
-use Rattle.law_places.specs.pg_base.Version.{VersionValue}
-use Rattle.law_places.specs.pg_edges.declared.edge.Edge.{Edge}
-use Rattle.law_places.specs.pg_edges.declared.key.Key.{Key}
-use Rattle.law_places.specs.pg_edges.declared.key.Key.TheVariants as key
-use Rattle.law_places.specs.pg_entries.declared.cell.Cell.{Cell}
-use Rattle.law_places.specs.pg_entries.declared.cell.Cell.TheVariants as cells
-use Rattle.law_places.specs.pg_entries.declared.entry.Entry.{Entry}
-use Rattle.law_places.proofs.pg_house.Going.{HaveChildren}
-use Rattle.law_places.specs.pg_intent.declared.intent.Intent.{Intent}
-use Rattle.law_places.specs.pg_intent.declared.intent.Intent.TheVariants as intent
-use Rattle.law_places.specs.pg_intent.declared.key.IntentKey.{IntentKey}
-use Rattle.law_places.specs.pg_intent.declared.key.IntentKey.TheVariants as intent_key
-use Rattle.law_places.specs.pg_intent.Intent.{key_of, target_of}
-use Rattle.law_places.specs.pg_intent.Intents.{HaveOwnKeys, intent_at}
-use Rattle.law_places.proofs.pg_intent.Found.{stands_is}
-use Rattle.law_places.proofs.pg_intent.SameKey.{is_same_key-true}
-use Rattle.law_places.proofs.pg_intent.Stands.{each_found}
+use Rattle.pg_run.specs.pg_base.declared.id.FileId.{FileId}
+use Rattle.pg_run.specs.pg_base.Version.{VersionValue}
+use Rattle.pg_run.specs.pg_edges.declared.edge.Edge.{Edge}
+use Rattle.pg_run.specs.pg_edges.declared.key.Key.{Key}
+use Rattle.pg_run.specs.pg_edges.declared.key.Key.TheVariants as key
+use Rattle.pg_run.specs.pg_entries.declared.cell.Cell.{Cell}
+use Rattle.pg_run.specs.pg_entries.declared.cell.Cell.TheVariants as cells
+use Rattle.pg_run.specs.pg_entries.declared.entry.Entry.{Entry}
+use Rattle.pg_run.proofs.pg_house.Going.{HaveChildren}
+use Rattle.pg_run.specs.pg_intent.declared.intent.Intent.{Intent}
+use Rattle.pg_run.specs.pg_intent.declared.intent.Intent.TheVariants as intent
+use Rattle.pg_run.specs.pg_intent.declared.key.IntentKey.{IntentKey}
+use Rattle.pg_run.specs.pg_intent.declared.key.IntentKey.TheVariants as intent_key
+use Rattle.pg_run.specs.pg_intent.Intent.{key_of, target_of}
+use Rattle.pg_run.specs.pg_intent.Intents.{HaveOwnKeys, intent_at}
+use Rattle.pg_run.proofs.pg_intent.Found.{stands_is}
+use Rattle.pg_run.proofs.pg_intent.SameKey.{is_same_key-true}
+use Rattle.pg_run.proofs.pg_intent.Stands.{each_found}
 use Rattle.theory_listing.specs.Rule.{MaySend}
-use Rattle.law_places.specs.pg_msg.declared.message.Ends.{Ends}
-use Rattle.law_places.specs.pg_msg.declared.message.Message.{Message}
-use Rattle.law_places.specs.pg_msg.declared.message.Message.TheVariants as message
-use Rattle.law_places.specs.pg_msg.declared.message.Sent.{Sent}
-use Rattle.law_places.specs.pg_names.declared.attributes.Attributes.{Attributes}
-use Rattle.law_places.specs.pg_names.Names.{cell_at as entry_at, own_at, own_or_blank}
+use Rattle.pg_run.specs.pg_msg.declared.message.Ends.{Ends}
+use Rattle.pg_run.specs.pg_msg.declared.message.Message.{Message}
+use Rattle.pg_run.specs.pg_msg.declared.message.Message.TheVariants as message
+use Rattle.pg_run.specs.pg_msg.declared.message.Sent.{Sent}
+use Rattle.pg_run.specs.pg_names.declared.attributes.Attributes.{Attributes}
+use Rattle.pg_run.specs.pg_names.Names.{cell_at as entry_at, own_at, own_or_blank}
 use Rattle.law_places.proofs.OnePlace.{found_key}
-use Rattle.law_places.proofs.theory_flood_pieces.Choices.{All-flat_map, chosen}
-use Rattle.law_places.specs.pg_register.declared.flag.Flag.{Flag}
-use Rattle.law_places.specs.pg_register.Flag.{flag_of}
-use Rattle.law_places.specs.pg_replica.declared.replica.Replica.{Replica}
-use Rattle.law_places.specs.pg_replica.Replica.{cell_at as head_at}
+use Rattle.pg_run.proofs.theory_flood_pieces.Choices.{All-flat_map, chosen}
+use Rattle.pg_run.specs.pg_register.declared.flag.Flag.{Flag}
+use Rattle.pg_run.specs.pg_register.Flag.{flag_of}
+use Rattle.pg_run.specs.pg_replica.declared.replica.Replica.{Replica}
+use Rattle.pg_run.specs.pg_replica.Replica.{cell_at as head_at}
 use Rattle.theory_listing_house.specs.Listing.{cell_place}
-use Rattle.law_places.specs.pg_store.declared.store.Store.{Store}
-use Rattle.law_places.specs.pg_store.Cells.{cell_at, entry_cell, flag_cell, is_sure, version_cell}
-use Rattle.law_places.specs.pg_store.Store.{content_of}
-use Rattle.law_places.specs.pg_pieces.Posting.{sent_to}
-use Rattle.law_places.specs.pg_cells.Sending.{Wanted, cell_to, cell_under, cells_where, edge_cells, key_cell, replica_cells, told_as, waits}
-use Rattle.law_places.specs.pg_intentions.Intending.{pieces}
-use Rattle.law_places.specs.pg_intentions.Requests.{asked_of, asks, asks_by, confirm_message, leave_message, request}
+use Rattle.pg_run.specs.pg_store.declared.store.Store.{Store}
+use Rattle.pg_run.specs.pg_store.Cells.{cell_at, entry_cell, flag_cell, is_sure, version_cell}
+use Rattle.pg_run.specs.pg_store.Store.{content_of}
+use Rattle.pg_run.specs.pg_pieces.Posting.{sent_to}
+use Rattle.pg_run.specs.pg_cells.Sending.{Wanted, cell_to, cell_under, cells_where, edge_cells, key_cell, replica_cells, told_as, waits}
+use Rattle.pg_run.specs.pg_intentions.Intending.{pieces}
+use Rattle.pg_run.specs.pg_intentions.Requests.{asked_of, asks, asks_by, confirm_message, leave_message, request}
 use Rattle.law_listings.specs.Letters.{of_stores, patch_place, says, told_by}
 use Rattle.law_listings.proofs.Plain.{IsOther, IsSentStamped, IsStamped, Others}
 

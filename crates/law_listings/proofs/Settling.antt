@@ -3,46 +3,46 @@ use Rattle.std.proofs.Common.{ℕ, ◌≡◌, ◌||◌, Bool, true, false, cond,
 use Rattle.std.specs.List.{list_any}
 use Rattle.std.proofs.lemmas.Bool.{and_parts, false≢true}
 use Rattle.std.proofs.lemmas.Option.{none-some, same_Some}
-use Rattle.law_places.specs.pg_base.declared.id.FileId.{FileId}
-use Rattle.law_places.specs.pg_base.declared.stamp.Stamp.{Stamp}
-use Rattle.law_places.specs.pg_base.Id.{is_same_file}
-use Rattle.law_places.specs.pg_base.Stamp.{is_before}
-use Rattle.law_places.proofs.pg_base.Orders.{is_before-false, is_same_file-true}
-use Rattle.law_places.specs.pg_entries.declared.entry.Entry.{Entry}
-use Rattle.law_places.specs.pg_house.Facts.{IsLeft, IsOneOf}
-use Rattle.law_places.specs.pg_intent.declared.intent.Intent.{Intent}
-use Rattle.law_places.specs.pg_intent.declared.intent.Intent.TheVariants as intent
-use Rattle.law_places.specs.pg_intent.declared.key.IntentKey.{IntentKey}
-use Rattle.law_places.specs.pg_intent.declared.key.IntentKey.TheVariants as intent_key
-use Rattle.law_places.specs.pg_intent.Intent.{key_of}
-use Rattle.law_places.specs.pg_intent.Intents.{begun_on, intent_at}
-use Rattle.law_places.specs.pg_intent.Key.{is_same_key}
-use Rattle.law_places.proofs.pg_intent.Found.{begun_found, stands_is}
+use Rattle.pg_run.specs.pg_base.declared.id.FileId.{FileId}
+use Rattle.pg_run.specs.pg_base.declared.stamp.Stamp.{Stamp}
+use Rattle.pg_run.specs.pg_base.Id.{is_same_file}
+use Rattle.pg_run.specs.pg_base.Stamp.{is_before}
+use Rattle.pg_run.proofs.pg_base.Orders.{is_before-false, is_same_file-true}
+use Rattle.pg_run.specs.pg_entries.declared.entry.Entry.{Entry}
+use Rattle.pg_run.specs.pg_house.Facts.{IsLeft, IsOneOf}
+use Rattle.pg_run.specs.pg_intent.declared.intent.Intent.{Intent}
+use Rattle.pg_run.specs.pg_intent.declared.intent.Intent.TheVariants as intent
+use Rattle.pg_run.specs.pg_intent.declared.key.IntentKey.{IntentKey}
+use Rattle.pg_run.specs.pg_intent.declared.key.IntentKey.TheVariants as intent_key
+use Rattle.pg_run.specs.pg_intent.Intent.{key_of}
+use Rattle.pg_run.specs.pg_intent.Intents.{begun_on, intent_at}
+use Rattle.pg_run.specs.pg_intent.Key.{is_same_key}
+use Rattle.pg_run.proofs.pg_intent.Found.{begun_found, stands_is}
 use Rattle.theory_listing.specs.Protocol.{Above, AtLeast, AtMost}
-use Rattle.law_places.specs.pg_msg.declared.work.Slot.{Slot}
-use Rattle.law_places.specs.pg_msg.declared.work.Work.{Work}
-use Rattle.law_places.specs.pg_names.Names as names
-use Rattle.law_places.specs.pg_names.Names.{NamesValue, own_or_blank}
+use Rattle.pg_run.specs.pg_msg.declared.work.Slot.{Slot}
+use Rattle.pg_run.specs.pg_msg.declared.work.Work.{Work}
+use Rattle.pg_run.specs.pg_names.Names as names
+use Rattle.pg_run.specs.pg_names.Names.{NamesValue, own_or_blank}
 use Rattle.law_places.proofs.OnePlace.{found_key}
-use Rattle.law_places.proofs.theory_flood_pieces.Choices.{chosen}
-use Rattle.law_places.specs.pg_register.declared.place.Place.{Place}
-use Rattle.law_places.specs.pg_register.Place.{newer_place}
-use Rattle.law_places.specs.pg_intentions.Beginning.{begin_end, end_others, still_stands}
-use Rattle.law_places.specs.pg_repair.Confirming.{own_entry}
-use Rattle.law_places.specs.pg_intentions.Confirms.{begin_confirm, confirm_of, is_doubtful, is_doubtful_in}
-use Rattle.law_places.specs.pg_intentions.Fills.{begin_fill, begin_fills, files_to_fill, to_fill}
-use Rattle.law_places.specs.pg_pieces.Intending.{begin_intent, each}
-use Rattle.law_places.specs.pg_intentions.Intending.{in_order}
-use Rattle.law_places.specs.pg_intentions.Patches.{begin_patch, begin_patches, is_slot, patch_of}
-use Rattle.law_places.specs.pg_intentions.Seeks.{begin_seek, begin_seeks, to_seek}
-use Rattle.law_places.proofs.pg_intentions.Patched.{behind_at, ended_at, in_order_any, other_at, patched, unpatched}
-use Rattle.law_places.proofs.pg_intentions.Standing.{each_at, fill_other, filtered, patch_at, seek_other, tested_too}
-use Rattle.law_places.proofs.pg_intentions.Steady.{IsSteady, confirm_stays, each_stays, fill_stays, patch_stays, seek_stays, stays_on}
+use Rattle.pg_run.proofs.theory_flood_pieces.Choices.{chosen}
+use Rattle.pg_run.specs.pg_register.declared.place.Place.{Place}
+use Rattle.pg_run.specs.pg_register.Place.{newer_place}
+use Rattle.pg_run.specs.pg_intentions.Beginning.{begin_end, end_others, still_stands}
+use Rattle.pg_run.specs.pg_repair.Confirming.{own_entry}
+use Rattle.pg_run.specs.pg_intentions.Confirms.{begin_confirm, confirm_of, is_doubtful, is_doubtful_in}
+use Rattle.pg_run.specs.pg_intentions.Fills.{begin_fill, begin_fills, files_to_fill, to_fill}
+use Rattle.pg_run.specs.pg_pieces.Intending.{begin_intent, each}
+use Rattle.pg_run.specs.pg_intentions.Intending.{in_order}
+use Rattle.pg_run.specs.pg_intentions.Patches.{begin_patch, begin_patches, is_slot, patch_of}
+use Rattle.pg_run.specs.pg_intentions.Seeks.{begin_seek, begin_seeks, to_seek}
+use Rattle.pg_run.proofs.pg_intentions.Patched.{behind_at, ended_at, in_order_any, other_at, patched, unpatched}
+use Rattle.pg_run.proofs.pg_intentions.Standing.{each_at, fill_other, filtered, patch_at, seek_other, tested_too}
+use Rattle.pg_run.proofs.pg_intentions.Steady.{IsSteady, confirm_stays, each_stays, fill_stays, patch_stays, seek_stays, stays_on}
 use Rattle.theory_listing_house.proofs.Seen.{at_most}
-use Rattle.law_places.specs.pg_store.declared.store.Store.{Store}
-use Rattle.law_places.specs.pg_store.Servers.{first_target}
-use Rattle.law_places.specs.pg_store.Store.{is_held}
-use Rattle.law_places.specs.pg_pieces.Done.{Done, idle}
+use Rattle.pg_run.specs.pg_store.declared.store.Store.{Store}
+use Rattle.pg_run.specs.pg_store.Servers.{first_target}
+use Rattle.pg_run.specs.pg_store.Store.{is_held}
+use Rattle.pg_run.specs.pg_pieces.Done.{Done, idle}
 use Rattle.law_listings.specs.Letters.{patch_place}
 use Rattle.law_listings.proofs.PlacesAlone.{of_places}
 use Rattle.law_listings.proofs.Slots.{gone_through}

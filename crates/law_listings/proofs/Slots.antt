@@ -7,14 +7,14 @@ use Rattle.std.specs.List.{list_any}
 use Rattle.std.specs.BTreeMap.{insert_entry, is_at}
 use Rattle.std.specs.Map.{keys_of, lookup}
 use Rattle.std.proofs.lemmas.Bool.{false≢true, or_left, or_right}
-use Rattle.law_places.specs.pg_base.Id.{file_cmp}
-use Rattle.law_places.proofs.pg_base.Maps.{lookup-insert_entry}
-use Rattle.law_places.specs.pg_house.Facts.{IsOneOf}
-use Rattle.law_places.specs.pg_msg.declared.work.Slot.{Slot}
-use Rattle.law_places.specs.pg_msg.Work.{slot_cmp}
-use Rattle.law_places.proofs.pg_msg.Slots.{slot_total}
-use Rattle.law_places.specs.pg_intentions.Intending.{Slots, add_slots, in_order}
-use Rattle.law_places.specs.pg_intentions.Patches.{is_slot}
+use Rattle.pg_run.specs.pg_base.Id.{file_cmp}
+use Rattle.pg_run.proofs.pg_base.Maps.{lookup-insert_entry}
+use Rattle.pg_run.specs.pg_house.Facts.{IsOneOf}
+use Rattle.pg_run.specs.pg_msg.declared.work.Slot.{Slot}
+use Rattle.pg_run.specs.pg_msg.Work.{slot_cmp}
+use Rattle.pg_run.proofs.pg_msg.Slots.{slot_total}
+use Rattle.pg_run.specs.pg_intentions.Intending.{Slots, add_slots, in_order}
+use Rattle.pg_run.specs.pg_intentions.Patches.{is_slot}
 
 -- two orderings, one behind the other, are equal where both are
 both_equal : (o p : Ordering) → is_eq (ordering_then o p) ≡ (is_eq o && is_eq p)

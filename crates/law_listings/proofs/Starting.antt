@@ -1,27 +1,27 @@
 -- The first part of a step by which a thing becomes held, and gets a place.
 use Rattle.std.proofs.Common.{ℕ, ◌≡◌, Bool, false, length, List, Option, None, Some, refl, sym, ap, ◌∙◌, inl, inr, ◌⊎◌}
 use Rattle.std.proofs.lemmas.Option.{none-some, same_Some}
-use Rattle.law_places.specs.pg_base.declared.id.FileId.{FileId}
-use Rattle.law_places.specs.pg_base.declared.policy.Policy.{Policy}
-use Rattle.law_places.specs.pg_entries.declared.entry.Entry.{Entry}
-use Rattle.law_places.proofs.pg_house.Greatest.{cell_held}
-use Rattle.law_places.specs.pg_intent.declared.intent.Intent.TheVariants as intent
-use Rattle.law_places.specs.pg_intent.declared.key.IntentKey.TheVariants as intent_key
-use Rattle.law_places.specs.pg_intent.Intents.{intent_at, stands}
+use Rattle.pg_run.specs.pg_base.declared.id.FileId.{FileId}
+use Rattle.pg_run.specs.pg_base.declared.policy.Policy.{Policy}
+use Rattle.pg_run.specs.pg_entries.declared.entry.Entry.{Entry}
+use Rattle.pg_run.proofs.pg_house.Greatest.{cell_held}
+use Rattle.pg_run.specs.pg_intent.declared.intent.Intent.TheVariants as intent
+use Rattle.pg_run.specs.pg_intent.declared.key.IntentKey.TheVariants as intent_key
+use Rattle.pg_run.specs.pg_intent.Intents.{intent_at, stands}
 use Rattle.theory_listing.specs.Protocol.{AtLeast}
 use Rattle.theory_listing.specs.Parts.{NoneLater}
 use Rattle.theory_listing.specs.Rule.{HasCell, Holds, IsToldAt}
 use Rattle.theory_listing.proofs.Handlers.{begun_first}
-use Rattle.law_places.specs.pg_msg.declared.work.Work.{Work}
-use Rattle.law_places.specs.pg_names.declared.attributes.Attributes.{Attributes}
-use Rattle.law_places.specs.pg_names.Names.{cell_at}
-use Rattle.law_places.specs.pg_register.declared.place.Place.{Place}
-use Rattle.law_places.specs.pg_run.Intending.{PatchesStand}
+use Rattle.pg_run.specs.pg_msg.declared.work.Work.{Work}
+use Rattle.pg_run.specs.pg_names.declared.attributes.Attributes.{Attributes}
+use Rattle.pg_run.specs.pg_names.Names.{cell_at}
+use Rattle.pg_run.specs.pg_register.declared.place.Place.{Place}
+use Rattle.pg_run.specs.Intending.{PatchesStand}
 use Rattle.theory_listing_house.specs.Listing.{cell_place, own_place}
-use Rattle.law_places.specs.pg_store.declared.store.Store.{Store}
-use Rattle.law_places.specs.pg_store.Seen.{removed_of, view_of}
-use Rattle.law_places.specs.pg_store.Store.{is_held, take_place}
-use Rattle.law_places.specs.pg_pieces.Done.{idle}
+use Rattle.pg_run.specs.pg_store.declared.store.Store.{Store}
+use Rattle.pg_run.specs.pg_store.Seen.{removed_of, view_of}
+use Rattle.pg_run.specs.pg_store.Store.{is_held, take_place}
+use Rattle.pg_run.specs.pg_pieces.Done.{idle}
 use Rattle.law_listings.specs.Letters.{Letter, patch_place}
 use Rattle.law_listings.proofs.PlacesAlone.{IsPart, of_places}
 use Rattle.law_listings.proofs.Begun.{After, HadPatch, cells_after, confirms_after, new_cells, others_after, patches_after, removed_after}

@@ -4,35 +4,35 @@ use Rattle.std.specs.List.{flat_map}
 use Rattle.std.proofs.lemmas.List.Elements.{All-append, All-cons, All-head, All-nil, All-tail, All-weaker}
 use Rattle.std.proofs.lemmas.Bool.{false≢true}
 use Rattle.std.proofs.lemmas.Option.{none-some, same_Some}
-use Rattle.law_places.specs.pg_base.declared.id.FileId.{FileId}
-use Rattle.law_places.specs.pg_base.Stamp.{is_before}
-use Rattle.law_places.specs.pg_call.declared.reply.Reply.{Reply}
-use Rattle.law_places.specs.pg_house.Holding.{waits}
-use Rattle.law_places.proofs.pg_house.Going.{HaveChildren}
+use Rattle.pg_run.specs.pg_base.declared.id.FileId.{FileId}
+use Rattle.pg_run.specs.pg_base.Stamp.{is_before}
+use Rattle.pg_run.specs.pg_call.declared.reply.Reply.{Reply}
+use Rattle.pg_run.specs.pg_house.Holding.{waits}
+use Rattle.pg_run.proofs.pg_house.Going.{HaveChildren}
 use Rattle.theory_listing.specs.Protocol.{IsIn}
 use Rattle.theory_listing.specs.Parts.{FirstPart, NoneLater, SecondPart}
 use Rattle.theory_listing.specs.Rule.{HasCell, IsKnownAt, IsSettled, IsToldAt, MaySend, MayStep}
 use Rattle.theory_listing.specs.World.Saying.{LeaveOk, Other, TellOk, Told}
 use Rattle.theory_listing.specs.World.Way.{PlaceIs, SureCell, Tell}
 use Rattle.theory_listing.proofs.Parts.{parts_are_steps, places_are_known}
-use Rattle.law_places.specs.pg_msg.declared.message.Sent.{Sent}
-use Rattle.law_places.specs.pg_msg.declared.work.Work.{Work}
-use Rattle.law_places.specs.pg_names.declared.attributes.Attributes.{Attributes}
-use Rattle.law_places.specs.pg_names.Names.{NamesValue, own_at}
-use Rattle.law_places.specs.pg_names.Names as names
-use Rattle.law_places.specs.pg_register.declared.place.Place.{Place}
-use Rattle.law_places.specs.pg_run.Intending.{IntendsInOrder}
-use Rattle.law_places.proofs.pg_run.Event.{nothing_last, nothing_sent}
-use Rattle.law_places.specs.pg_server.Local.{closed, intended, settled, sent_at_end}
+use Rattle.pg_run.specs.pg_msg.declared.message.Sent.{Sent}
+use Rattle.pg_run.specs.pg_msg.declared.work.Work.{Work}
+use Rattle.pg_run.specs.pg_names.declared.attributes.Attributes.{Attributes}
+use Rattle.pg_run.specs.pg_names.Names.{NamesValue, own_at}
+use Rattle.pg_run.specs.pg_names.Names as names
+use Rattle.pg_run.specs.pg_register.declared.place.Place.{Place}
+use Rattle.pg_run.specs.Intending.{IntendsInOrder}
+use Rattle.pg_run.proofs.Event.{nothing_last, nothing_sent}
+use Rattle.pg_run.specs.pg_server.Local.{closed, intended, settled, sent_at_end}
 use Rattle.theory_listing_house.specs.Listing.{cell_place, own_place}
-use Rattle.law_places.specs.pg_store.declared.store.Store.{Store}
-use Rattle.law_places.specs.pg_store.Births.{birth_of}
-use Rattle.law_places.specs.pg_store.Seen.{view_of}
-use Rattle.law_places.specs.pg_store.Store.{is_held}
-use Rattle.law_places.specs.pg_store.Together.{AreTogether, birth_at}
-use Rattle.law_places.specs.pg_pieces.Done.{Done}
-use Rattle.law_places.specs.pg_cells.Sending.{cells_where, is_chosen}
-use Rattle.law_places.specs.pg_intentions.Requests.{asks_by}
+use Rattle.pg_run.specs.pg_store.declared.store.Store.{Store}
+use Rattle.pg_run.specs.pg_store.Births.{birth_of}
+use Rattle.pg_run.specs.pg_store.Seen.{view_of}
+use Rattle.pg_run.specs.pg_store.Store.{is_held}
+use Rattle.pg_run.specs.pg_store.Together.{AreTogether, birth_at}
+use Rattle.pg_run.specs.pg_pieces.Done.{Done}
+use Rattle.pg_run.specs.pg_cells.Sending.{cells_where, is_chosen}
+use Rattle.pg_run.specs.pg_intentions.Requests.{asks_by}
 use Rattle.law_listings.specs.Laws.{MaySettle}
 use Rattle.law_listings.specs.Letters.{Letter, Saying, of_stores, says}
 use Rattle.law_listings.proofs.Alike.{Alike, alike_by, same_view}

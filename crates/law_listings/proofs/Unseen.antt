@@ -3,49 +3,49 @@
 use Rattle.std.proofs.Common.{ℕ, ◌≡◌, ◌||◌, Bool, true, false, cond, List, [], ◌∷◌, Option, None, Some, is_some, refl, sym, ap, ◌∙◌, inl, inr, ◌⊎◌}
 use Rattle.std.specs.Option.{option_map}
 use Rattle.std.specs.Prelude.{nat_lt}
-use Rattle.law_places.specs.pg_base.declared.id.FileId.{FileId}
-use Rattle.law_places.specs.pg_base.Id.{is_same_file}
-use Rattle.law_places.specs.pg_base.Version.{VersionValue}
-use Rattle.law_places.specs.pg_edges.declared.key.Key.TheVariants as key
-use Rattle.law_places.proofs.pg_house.Truths.{bool_cases}
-use Rattle.law_places.specs.pg_intent.declared.intent.Intent.{Intent}
-use Rattle.law_places.specs.pg_intent.declared.intent.Intent.TheVariants as intent
-use Rattle.law_places.specs.pg_intent.declared.key.IntentKey.{IntentKey}
-use Rattle.law_places.specs.pg_intent.declared.key.IntentKey.TheVariants as intent_key
-use Rattle.law_places.specs.pg_intent.Intent.{aimed_at}
-use Rattle.law_places.specs.pg_intent.Intents.{aimed, intent_at, stands}
-use Rattle.law_places.specs.pg_intent.Key.{is_same_key}
-use Rattle.law_places.proofs.pg_intent.Found.{aimed_found, stands_is}
-use Rattle.law_places.specs.pg_msg.declared.message.Ends.{Ends}
-use Rattle.law_places.specs.pg_msg.declared.update.Update.TheVariants as update
-use Rattle.law_places.specs.pg_msg.declared.work.Work.{Work}
-use Rattle.law_places.specs.pg_msg.Work.{with_made}
-use Rattle.law_places.specs.pg_names.declared.attributes.Attributes.{Attributes}
-use Rattle.law_places.specs.pg_names.Names.{join_flag, own_at, with_flag}
-use Rattle.law_places.specs.pg_names.Names as names
-use Rattle.law_places.proofs.pg_names.Holding.{fill_cells, fill_own}
-use Rattle.law_places.proofs.pg_names.Lookups.{flag_cell, flag_other, flag_same, known_absent, update_frame}
-use Rattle.law_places.proofs.pg_base.Orders.{is_same_file-true}
-use Rattle.law_places.proofs.theory_flood_pieces.Choices.{chosen}
-use Rattle.law_places.specs.pg_register.declared.flag.Flag.{Flag}
+use Rattle.pg_run.specs.pg_base.declared.id.FileId.{FileId}
+use Rattle.pg_run.specs.pg_base.Id.{is_same_file}
+use Rattle.pg_run.specs.pg_base.Version.{VersionValue}
+use Rattle.pg_run.specs.pg_edges.declared.key.Key.TheVariants as key
+use Rattle.pg_run.proofs.pg_house.Truths.{bool_cases}
+use Rattle.pg_run.specs.pg_intent.declared.intent.Intent.{Intent}
+use Rattle.pg_run.specs.pg_intent.declared.intent.Intent.TheVariants as intent
+use Rattle.pg_run.specs.pg_intent.declared.key.IntentKey.{IntentKey}
+use Rattle.pg_run.specs.pg_intent.declared.key.IntentKey.TheVariants as intent_key
+use Rattle.pg_run.specs.pg_intent.Intent.{aimed_at}
+use Rattle.pg_run.specs.pg_intent.Intents.{aimed, intent_at, stands}
+use Rattle.pg_run.specs.pg_intent.Key.{is_same_key}
+use Rattle.pg_run.proofs.pg_intent.Found.{aimed_found, stands_is}
+use Rattle.pg_run.specs.pg_msg.declared.message.Ends.{Ends}
+use Rattle.pg_run.specs.pg_msg.declared.update.Update.TheVariants as update
+use Rattle.pg_run.specs.pg_msg.declared.work.Work.{Work}
+use Rattle.pg_run.specs.pg_msg.Work.{with_made}
+use Rattle.pg_run.specs.pg_names.declared.attributes.Attributes.{Attributes}
+use Rattle.pg_run.specs.pg_names.Names.{join_flag, own_at, with_flag}
+use Rattle.pg_run.specs.pg_names.Names as names
+use Rattle.pg_run.proofs.pg_names.Holding.{fill_cells, fill_own}
+use Rattle.pg_run.proofs.pg_names.Lookups.{flag_cell, flag_other, flag_same, known_absent, update_frame}
+use Rattle.pg_run.proofs.pg_base.Orders.{is_same_file-true}
+use Rattle.pg_run.proofs.theory_flood_pieces.Choices.{chosen}
+use Rattle.pg_run.specs.pg_register.declared.flag.Flag.{Flag}
 use Rattle.theory_listing_house.specs.Listing.{cell_place, own_place}
-use Rattle.law_places.specs.pg_store.declared.store.Store.{Store}
-use Rattle.law_places.specs.pg_store.Beginning.{with_intents}
-use Rattle.law_places.specs.pg_store.Births.{fill_at, has_birth, is_pending, wish_at, with_wishes}
-use Rattle.law_places.specs.pg_store.Links.{is_linked, is_new_link, knows_later, link, put_link, unlink}
-use Rattle.law_places.specs.pg_store.Seen.{server_of}
-use Rattle.law_places.specs.pg_store.Store.{is_new_version, is_newer_flag, put_flag, put_version, take_flag, take_version, with_names}
-use Rattle.law_places.specs.pg_store.Wishes.{aim_wish}
-use Rattle.law_places.specs.pg_pieces.declared.accepting.EdgeUse.{EdgeUse}
-use Rattle.law_places.specs.pg_pieces.declared.accepting.EdgeUse.TheVariants as manner
-use Rattle.law_places.specs.pg_pieces.Accepting.{accept, is_accepted, is_answer, link_peer, met, with_gone, with_link}
-use Rattle.law_places.specs.pg_pieces.Done.{Done, idle}
-use Rattle.law_places.specs.pg_pieces.Making.{lower_flag, own_next, raise_flag}
-use Rattle.law_places.specs.pg_pieces.Taking.{take_flag_noted, take_flags_noted}
-use Rattle.law_places.specs.pg_pieces.Golds.{is_gold}
-use Rattle.law_places.specs.pg_calls.Demoting.{lowered}
-use Rattle.law_places.specs.pg_repair.Filling.{few_golds, fill, invite, invited, is_bronze, live_golds, raise_if_few}
-use Rattle.law_places.specs.pg_repair.Granting.{aim_fill, fill_asks, turn_fill, turn_wish, wish_asks}
+use Rattle.pg_run.specs.pg_store.declared.store.Store.{Store}
+use Rattle.pg_run.specs.pg_store.Beginning.{with_intents}
+use Rattle.pg_run.specs.pg_store.Births.{fill_at, has_birth, is_pending, wish_at, with_wishes}
+use Rattle.pg_run.specs.pg_store.Links.{is_linked, is_new_link, knows_later, link, put_link, unlink}
+use Rattle.pg_run.specs.pg_store.Seen.{server_of}
+use Rattle.pg_run.specs.pg_store.Store.{is_new_version, is_newer_flag, put_flag, put_version, take_flag, take_version, with_names}
+use Rattle.pg_run.specs.pg_store.Wishes.{aim_wish}
+use Rattle.pg_run.specs.pg_pieces.declared.accepting.EdgeUse.{EdgeUse}
+use Rattle.pg_run.specs.pg_pieces.declared.accepting.EdgeUse.TheVariants as manner
+use Rattle.pg_run.specs.pg_pieces.Accepting.{accept, is_accepted, is_answer, link_peer, met, with_gone, with_link}
+use Rattle.pg_run.specs.pg_pieces.Done.{Done, idle}
+use Rattle.pg_run.specs.pg_pieces.Making.{lower_flag, own_next, raise_flag}
+use Rattle.pg_run.specs.pg_pieces.Taking.{take_flag_noted, take_flags_noted}
+use Rattle.pg_run.specs.pg_pieces.Golds.{is_gold}
+use Rattle.pg_run.specs.pg_calls.Demoting.{lowered}
+use Rattle.pg_run.specs.pg_repair.Filling.{few_golds, fill, invite, invited, is_bronze, live_golds, raise_if_few}
+use Rattle.pg_run.specs.pg_repair.Granting.{aim_fill, fill_asks, turn_fill, turn_wish, wish_asks}
 use Rattle.law_listings.specs.Letters.{patch_place}
 use Rattle.law_listings.proofs.PlacesAlone.{of_places}
 use Rattle.law_listings.proofs.Alike.{Alike, Alike-refl, Alike-trans, alike_by}

@@ -2,27 +2,27 @@
 use Rattle.std.proofs.Common.{ℕ, ◌≡◌, true, false, List, Option, None, Some, is_some, refl, sym, ◌∙◌}
 use Rattle.std.proofs.lemmas.Bool.{and_parts, false≢true}
 use Rattle.std.proofs.lemmas.Option.{none-some}
-use Rattle.law_places.specs.pg_base.declared.id.FileId.{FileId}
-use Rattle.law_places.specs.pg_base.declared.stamp.Stamp.{Stamp}
-use Rattle.law_places.specs.pg_base.Stamp.{is_before}
-use Rattle.law_places.specs.pg_base.Id.{is_same_file}
-use Rattle.law_places.proofs.pg_base.Orders.{is_same_file-true}
-use Rattle.law_places.specs.pg_entries.declared.entry.Entry.{Entry}
-use Rattle.law_places.specs.pg_intent.declared.intent.Intent.{Intent}
-use Rattle.law_places.specs.pg_intent.declared.intent.Intent.TheVariants as intent
-use Rattle.law_places.specs.pg_intent.declared.key.IntentKey.TheVariants as intent_key
-use Rattle.law_places.specs.pg_intent.Intents.{intent_at}
+use Rattle.pg_run.specs.pg_base.declared.id.FileId.{FileId}
+use Rattle.pg_run.specs.pg_base.declared.stamp.Stamp.{Stamp}
+use Rattle.pg_run.specs.pg_base.Stamp.{is_before}
+use Rattle.pg_run.specs.pg_base.Id.{is_same_file}
+use Rattle.pg_run.proofs.pg_base.Orders.{is_same_file-true}
+use Rattle.pg_run.specs.pg_entries.declared.entry.Entry.{Entry}
+use Rattle.pg_run.specs.pg_intent.declared.intent.Intent.{Intent}
+use Rattle.pg_run.specs.pg_intent.declared.intent.Intent.TheVariants as intent
+use Rattle.pg_run.specs.pg_intent.declared.key.IntentKey.TheVariants as intent_key
+use Rattle.pg_run.specs.pg_intent.Intents.{intent_at}
 use Rattle.law_places.proofs.OnePlace.{found_key}
-use Rattle.law_places.proofs.pg_house.Truths.{before_itself}
+use Rattle.pg_run.proofs.pg_house.Truths.{before_itself}
 use Rattle.theory_listing.specs.Protocol.{AtMost, IsOrdered}
 use Rattle.theory_listing.specs.Rule.{Holds, IsToldAt}
 use Rattle.theory_listing.proofs.Somewhere.{most_then}
-use Rattle.law_places.specs.pg_names.Names.{InodeValue, known, own_of}
-use Rattle.law_places.specs.pg_register.declared.place.Place.{Place}
+use Rattle.pg_run.specs.pg_names.Names.{InodeValue, known, own_of}
+use Rattle.pg_run.specs.pg_register.declared.place.Place.{Place}
 use Rattle.theory_listing_house.specs.Listing.{own_place}
 use Rattle.theory_listing_house.proofs.Seen.{before_trans}
-use Rattle.law_places.specs.pg_store.declared.store.Store.{Store}
-use Rattle.law_places.specs.pg_store.Store.{is_held}
+use Rattle.pg_run.specs.pg_store.declared.store.Store.{Store}
+use Rattle.pg_run.specs.pg_store.Store.{is_held}
 use Rattle.law_listings.specs.Letters.{of_stores}
 
 held_by : (k : Option InodeValue) → is_some k ≡ true → (q : Place) × (own_place (own_of k) ≡ Some q)

@@ -3,23 +3,23 @@ use Rattle.std.proofs.Common.{ℕ, ◌≡◌, ◌≤◌, ◌==◌, ◌&&◌, ◌
 use Rattle.std.proofs.lemmas.Bool.Decides.{nat_tests}
 use Rattle.std.proofs.lemmas.List.Elements.{All-cons, All-head, All-tail, All-weaker}
 use Rattle.std.proofs.lemmas.List.Folds.{list_any-append}
-use Rattle.law_places.specs.pg_base.declared.id.FileId.{FileId}
-use Rattle.law_places.specs.pg_base.declared.stamp.Stamp.{Stamp}
-use Rattle.law_places.specs.pg_event.declared.event.Event.{Event}
-use Rattle.law_places.specs.pg_event.declared.event.Event.TheVariants as happening
-use Rattle.law_places.specs.pg_event.declared.entry.VoidCause.{VoidCause}
+use Rattle.pg_run.specs.pg_base.declared.id.FileId.{FileId}
+use Rattle.pg_run.specs.pg_base.declared.stamp.Stamp.{Stamp}
+use Rattle.pg_run.specs.pg_event.declared.event.Event.{Event}
+use Rattle.pg_run.specs.pg_event.declared.event.Event.TheVariants as happening
+use Rattle.pg_run.specs.pg_event.declared.entry.VoidCause.{VoidCause}
 use Rattle.theory_listing.specs.Promises.{IsPromised, Kept, Promise, Somewhere}
 use Rattle.theory_listing.specs.Rule.{IsKnownAt, IsSupersededAt, IsToldAt}
 use Rattle.theory_listing.specs.World as listing
 use Rattle.theory_listing.specs.World.{IsCurrent, signed}
 use Rattle.theory_listing.specs.World.Saying.{LeaveOk, Other, TellOk, Told}
 use Rattle.theory_listing.specs.Runs.{removed}
-use Rattle.law_places.specs.pg_msg.declared.message.Sent.{Sent}
-use Rattle.law_places.specs.pg_register.declared.place.Place.{Place}
-use Rattle.law_places.specs.pg_register.Flag.{is_removed}
-use Rattle.law_places.specs.pg_run.Journal.{removed_in}
-use Rattle.law_places.specs.pg_store.declared.store.Store.{Store}
-use Rattle.law_places.specs.pg_store.Seen.{view_of}
+use Rattle.pg_run.specs.pg_msg.declared.message.Sent.{Sent}
+use Rattle.pg_run.specs.pg_register.declared.place.Place.{Place}
+use Rattle.pg_run.specs.pg_register.Flag.{is_removed}
+use Rattle.pg_run.specs.Journal.{removed_in}
+use Rattle.pg_run.specs.pg_store.declared.store.Store.{Store}
+use Rattle.pg_run.specs.pg_store.Seen.{view_of}
 use Rattle.law_listings.specs.Letters.{Letter, Saying, letter, of_stores, says}
 use Rattle.law_listings.proofs.Events.{SaysOf}
 

@@ -1,31 +1,31 @@
 -- What directories list in a run: statements.
 use Rattle.std.specs.Prelude.{ℕ, ◌≡◌, Contains, List, None}
-use Rattle.law_places.specs.pg_base.declared.id.FileId.{FileId}
-use Rattle.law_places.specs.pg_base.declared.stamp.Stamp.{Stamp}
-use Rattle.law_places.specs.pg_event.declared.event.Event.{Event}
-use Rattle.law_places.specs.pg_house.Facts.{AreByServer, AreOrdered, IsLast, IsOfDirs}
+use Rattle.pg_run.specs.pg_base.declared.id.FileId.{FileId}
+use Rattle.pg_run.specs.pg_base.declared.stamp.Stamp.{Stamp}
+use Rattle.pg_run.specs.pg_event.declared.event.Event.{Event}
+use Rattle.pg_run.specs.pg_house.Facts.{AreByServer, AreOrdered, IsLast, IsOfDirs}
 use Rattle.theory_listing.specs.Promises.{Kept}
 use Rattle.theory_listing.specs.World.{Among}
-use Rattle.law_places.specs.pg_msg.declared.message.Message.TheVariants as message
-use Rattle.law_places.specs.pg_msg.declared.message.Ends.{Ends}
-use Rattle.law_places.specs.pg_msg.declared.message.Sent.{Sent}
-use Rattle.law_places.specs.pg_names.Names.{NamesValue, cell_at}
+use Rattle.pg_run.specs.pg_msg.declared.message.Message.TheVariants as message
+use Rattle.pg_run.specs.pg_msg.declared.message.Ends.{Ends}
+use Rattle.pg_run.specs.pg_msg.declared.message.Sent.{Sent}
+use Rattle.pg_run.specs.pg_names.Names.{NamesValue, cell_at}
 use Rattle.law_places.specs.Laws.{OnePlaceAStamp, PlacesWereMade}
-use Rattle.law_places.specs.pg_register.Place.{root}
-use Rattle.law_places.specs.pg_server.declared.input.Input.{Input}
-use Rattle.law_places.specs.pg_server.Local.{first_effect}
-use Rattle.law_places.specs.pg_store.declared.store.Store.{Store}
-use Rattle.law_places.specs.pg_run.Away.{WhatBeginsIsAway}
-use Rattle.law_places.specs.pg_run.Births.{BirthsMoveInEvents, ReplicasStayOrGo}
-use Rattle.law_places.specs.pg_run.Going.{BirthsEndByLeave}
-use Rattle.law_places.specs.pg_run.Intending.{IntentionsAreInOrder}
-use Rattle.law_places.specs.pg_run.Journal.{mail}
-use Rattle.law_places.specs.pg_run.Known.{IsPlaceOf, PlacesHaveOwnStamps}
-use Rattle.law_places.specs.pg_run.Laws.{AtEach, HouseIsInOrder, TakesIn, names_after}
-use Rattle.law_places.specs.pg_run.Leaving.{GiversHaveEachCell}
-use Rattle.law_places.specs.pg_run.Run.{World, run}
-use Rattle.law_places.specs.pg_run.Ticks.{TicksSendWhatIsOwed}
-use Rattle.law_places.specs.pg_run.Views.{MessagesAreOfViews, MessagesAreSentInView, ViewsArePrefixes}
+use Rattle.pg_run.specs.pg_register.Place.{root}
+use Rattle.pg_run.specs.pg_server.declared.input.Input.{Input}
+use Rattle.pg_run.specs.pg_server.Local.{first_effect}
+use Rattle.pg_run.specs.pg_store.declared.store.Store.{Store}
+use Rattle.pg_run.specs.Away.{WhatBeginsIsAway}
+use Rattle.pg_run.specs.Births.{BirthsMoveInEvents, ReplicasStayOrGo}
+use Rattle.pg_run.specs.Going.{BirthsEndByLeave}
+use Rattle.pg_run.specs.Intending.{IntentionsAreInOrder}
+use Rattle.pg_run.specs.Journal.{mail}
+use Rattle.pg_run.specs.Known.{IsPlaceOf, PlacesHaveOwnStamps}
+use Rattle.pg_run.specs.Laws.{AtEach, HouseIsInOrder, TakesIn, names_after}
+use Rattle.pg_run.specs.Leaving.{GiversHaveEachCell}
+use Rattle.pg_run.specs.Run.{World, run}
+use Rattle.pg_run.specs.Ticks.{TicksSendWhatIsOwed}
+use Rattle.pg_run.specs.Views.{MessagesAreOfViews, MessagesAreSentInView, ViewsArePrefixes}
 use Rattle.law_listings.specs.Letters.{Letter, letter, letters, listings, of_stores, place_of}
 
 -- ---- what is asked for

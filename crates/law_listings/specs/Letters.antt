@@ -1,31 +1,31 @@
 -- What servers hold, and the messages that they send, as directories see them.
 use Rattle.std.specs.Prelude.{ℕ, ◌≡◌, ◌++◌, true, length, map, List, [], ◌∷◌, Option, None, Some}
-use Rattle.law_places.specs.pg_base.declared.id.FileId.{FileId}
-use Rattle.law_places.specs.pg_base.declared.stamp.Stamp.{Stamp}
-use Rattle.law_places.specs.pg_entries.declared.cell.Cell.{Cell}
-use Rattle.law_places.specs.pg_entries.declared.cell.Cell.TheVariants as cells
-use Rattle.law_places.specs.pg_event.declared.event.Event.{Event}
-use Rattle.law_places.specs.pg_intent.declared.intent.Intent.{Intent}
-use Rattle.law_places.specs.pg_intent.declared.intent.Intent.TheVariants as intent
-use Rattle.law_places.specs.pg_intent.declared.key.IntentKey.TheVariants as intent_key
-use Rattle.law_places.specs.pg_intent.Intents.{intent_at, stands}
+use Rattle.pg_run.specs.pg_base.declared.id.FileId.{FileId}
+use Rattle.pg_run.specs.pg_base.declared.stamp.Stamp.{Stamp}
+use Rattle.pg_run.specs.pg_entries.declared.cell.Cell.{Cell}
+use Rattle.pg_run.specs.pg_entries.declared.cell.Cell.TheVariants as cells
+use Rattle.pg_run.specs.pg_event.declared.event.Event.{Event}
+use Rattle.pg_run.specs.pg_intent.declared.intent.Intent.{Intent}
+use Rattle.pg_run.specs.pg_intent.declared.intent.Intent.TheVariants as intent
+use Rattle.pg_run.specs.pg_intent.declared.key.IntentKey.TheVariants as intent_key
+use Rattle.pg_run.specs.pg_intent.Intents.{intent_at, stands}
 use Rattle.theory_listing.specs.Protocol.{Protocol}
 use Rattle.theory_listing.specs.World as listing
 use Rattle.theory_listing.specs.World.Saying.{LeaveOk, Other, TellOk, Told}
 use Rattle.theory_listing.specs.World.Way.{PlaceIs, SureCell, Tell}
-use Rattle.law_places.specs.pg_msg.declared.message.Message.{Message}
-use Rattle.law_places.specs.pg_msg.declared.message.Message.TheVariants as message
-use Rattle.law_places.specs.pg_msg.declared.message.Sent.{Sent}
-use Rattle.law_places.specs.pg_names.Names.{own_or_blank}
-use Rattle.law_places.specs.pg_register.declared.place.Place.{Place}
-use Rattle.law_places.specs.pg_server.Local.{effect}
+use Rattle.pg_run.specs.pg_msg.declared.message.Message.{Message}
+use Rattle.pg_run.specs.pg_msg.declared.message.Message.TheVariants as message
+use Rattle.pg_run.specs.pg_msg.declared.message.Sent.{Sent}
+use Rattle.pg_run.specs.pg_names.Names.{own_or_blank}
+use Rattle.pg_run.specs.pg_register.declared.place.Place.{Place}
+use Rattle.pg_run.specs.pg_server.Local.{effect}
 use Rattle.theory_listing_house.specs.Listing.{Beside, listing_of}
-use Rattle.law_places.specs.pg_store.declared.store.Store.{Store}
-use Rattle.law_places.specs.pg_store.Births.{birth_of}
-use Rattle.law_places.specs.pg_store.Seen.{view_of}
-use Rattle.law_places.specs.pg_store.Together.{IsOver}
-use Rattle.law_places.specs.pg_run.Journal.{removals}
-use Rattle.law_places.specs.pg_run.Run.{Taking, World, is_live, next, start, taking_in, world_after}
+use Rattle.pg_run.specs.pg_store.declared.store.Store.{Store}
+use Rattle.pg_run.specs.pg_store.Births.{birth_of}
+use Rattle.pg_run.specs.pg_store.Seen.{view_of}
+use Rattle.pg_run.specs.pg_store.Together.{IsOver}
+use Rattle.pg_run.specs.Journal.{removals}
+use Rattle.pg_run.specs.Run.{Taking, World, is_live, next, start, taking_in, world_after}
 
 -- the place that a Patch tells
 abbrev pub patch_place : Option Intent → Option Place

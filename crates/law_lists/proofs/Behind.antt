@@ -3,19 +3,19 @@ use Rattle.std.proofs.Common.{◌≡◌, true, List, ◌++◌, length, All, ap, 
 use Rattle.std.specs.Prelude.{drop}
 use Rattle.std.proofs.Math.Seq.{drop-append_seam}
 use Rattle.std.proofs.lemmas.List.{append_assoc}
-use Rattle.law_order.specs.pg_run.pg_msg.declared.update.Update.{Update}
-use Rattle.law_order.specs.pg_run.pg_house.Facts.{AreByServer, AreOrdered, IsLast, IsOfDirs}
-use Rattle.law_order.specs.pg_run.pg_house.House.{house}
-use Rattle.law_order.specs.pg_run.pg_house.Work.{State, state_of}
-use Rattle.law_order.proofs.pg_run.pg_house.Truths.{chosen_true}
-use Rattle.law_order.specs.pg_run.pg_store.declared.store.Store.{Store}
-use Rattle.law_order.specs.pg_run.pg_pieces.Done.{Done}
-use Rattle.law_order.specs.pg_run.pg_cells.Raised.{IsFlagMade}
-use Rattle.law_order.proofs.pg_run.pg_cells.Calmed.{settle_golds}
-use Rattle.law_order.proofs.pg_run.pg_intentions.Steady.{begin_end_stays}
-use Rattle.law_order.specs.pg_run.pg_server.declared.input.Input.{Input}
-use Rattle.law_order.specs.pg_run.pg_server.Local.{Effect, closed, effect, finished, first_effect, reply_to, settled, takes_effect}
-use Rattle.law_order.specs.pg_run.Run.{made_behind}
+use Rattle.pg_run.specs.pg_msg.declared.update.Update.{Update}
+use Rattle.pg_run.specs.pg_house.Facts.{AreByServer, AreOrdered, IsLast, IsOfDirs}
+use Rattle.pg_run.specs.pg_house.House.{house}
+use Rattle.pg_run.specs.pg_house.Work.{State, state_of}
+use Rattle.pg_run.proofs.pg_house.Truths.{chosen_true}
+use Rattle.pg_run.specs.pg_store.declared.store.Store.{Store}
+use Rattle.pg_run.specs.pg_pieces.Done.{Done}
+use Rattle.pg_run.specs.pg_cells.Raised.{IsFlagMade}
+use Rattle.pg_run.proofs.pg_cells.Calmed.{settle_golds}
+use Rattle.pg_run.proofs.pg_intentions.Steady.{begin_end_stays}
+use Rattle.pg_run.specs.pg_server.declared.input.Input.{Input}
+use Rattle.pg_run.specs.pg_server.Local.{Effect, closed, effect, finished, first_effect, reply_to, settled, takes_effect}
+use Rattle.pg_run.specs.Run.{made_behind}
 
 module _ (a : Store) (asked : Input) (going : takes_effect a asked ≡ true)
     (of_dirs : IsOfDirs (first_effect a asked).store.names)

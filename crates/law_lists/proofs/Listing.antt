@@ -1,18 +1,18 @@
 -- In every run: who comes back lists a child.
 use Rattle.std.proofs.Common.{ℕ, ◌≡◌, true, List, [], sym, subst, refl}
 use Rattle.std.proofs.lemmas.Option.{slice_get_within}
-use Rattle.law_order.specs.pg_run.pg_msg.declared.update.Update.TheVariants as update
-use Rattle.law_order.specs.pg_run.pg_event.declared.event.Event.{Event}
-use Rattle.law_order.specs.pg_run.pg_house.Facts.{AreOrdered}
-use Rattle.law_order.specs.pg_run.pg_store.declared.store.Store.{Store}
-use Rattle.law_order.specs.pg_run.pg_server.declared.input.Input.{Input}
-use Rattle.law_order.specs.pg_run.pg_server.Local.{first_effect, takes_effect}
-use Rattle.law_order.specs.pg_run.Asking.{Asked}
-use Rattle.law_order.specs.pg_run.Known.{of_run}
-use Rattle.law_order.specs.pg_run.Passed.{passed, passed_with}
-use Rattle.law_order.specs.pg_run.Run.{Taking, made_behind, removed_then, run, took_first}
-use Rattle.law_order.specs.pg_run.Took.{Take}
-use Rattle.law_order.proofs.pg_run.Frame.{acts_is}
+use Rattle.pg_run.specs.pg_msg.declared.update.Update.TheVariants as update
+use Rattle.pg_run.specs.pg_event.declared.event.Event.{Event}
+use Rattle.pg_run.specs.pg_house.Facts.{AreOrdered}
+use Rattle.pg_run.specs.pg_store.declared.store.Store.{Store}
+use Rattle.pg_run.specs.pg_server.declared.input.Input.{Input}
+use Rattle.pg_run.specs.pg_server.Local.{first_effect, takes_effect}
+use Rattle.pg_run.specs.Asking.{Asked}
+use Rattle.pg_run.specs.Known.{of_run}
+use Rattle.pg_run.specs.Passed.{passed, passed_with}
+use Rattle.pg_run.specs.Run.{Taking, made_behind, removed_then, run, took_first}
+use Rattle.pg_run.specs.Took.{Take}
+use Rattle.pg_run.proofs.Frame.{acts_is}
 use Rattle.law_order.specs.Laws.{FirstEffectsAreOrdered}
 use Rattle.law_names.specs.Goes.{Goes}
 use Rattle.law_names.specs.Merged.{StandsOn}

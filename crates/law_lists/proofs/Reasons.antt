@@ -4,14 +4,14 @@ use Rattle.std.proofs.Common.{ℕ, ◌≡◌, ◌++◌, false, List, [], ◌∷�
 use Rattle.std.specs.Prelude.{slice_get}
 use Rattle.std.proofs.lemmas.List.Elements.{All-head, All-tail}
 use Rattle.std.proofs.lemmas.Option.{none-some, same_Some}
-use Rattle.law_order.specs.pg_run.pg_base.declared.id.FileId.{FileId}
-use Rattle.law_order.specs.pg_run.pg_register.declared.flag.Flag.{Flag}
-use Rattle.law_order.specs.pg_run.pg_register.declared.place.Place.{Place}
-use Rattle.law_order.specs.pg_run.pg_msg.declared.update.Update.{Update}
-use Rattle.law_order.specs.pg_run.pg_msg.declared.update.Update.TheVariants as update
-use Rattle.law_order.specs.pg_run.pg_cells.Raised.{IsFlagMade}
-use Rattle.law_order.specs.pg_run.Passed.{passed, passed_with}
-use Rattle.law_order.specs.pg_run.Took.{Take, own_place, take_of}
+use Rattle.pg_run.specs.pg_base.declared.id.FileId.{FileId}
+use Rattle.pg_run.specs.pg_register.declared.flag.Flag.{Flag}
+use Rattle.pg_run.specs.pg_register.declared.place.Place.{Place}
+use Rattle.pg_run.specs.pg_msg.declared.update.Update.{Update}
+use Rattle.pg_run.specs.pg_msg.declared.update.Update.TheVariants as update
+use Rattle.pg_run.specs.pg_cells.Raised.{IsFlagMade}
+use Rattle.pg_run.specs.Passed.{passed, passed_with}
+use Rattle.pg_run.specs.Took.{Take, own_place, take_of}
 use Rattle.law_lists.specs.Laws.{ListsChild}
 
 -- where it is a place of a thing whose own place is dead, the thing lists a child

@@ -3,52 +3,52 @@ use Rattle.std.proofs.Common.{ℕ, ◌≡◌, ◌≤◌, ◌<◌, ◌==◌, Bool
 use Rattle.std.proofs.lemmas.Bool.{false≢true}
 use Rattle.std.proofs.lemmas.Bool.Decides.{nat_tests}
 use Rattle.std.proofs.lemmas.List.Elements.{All-append, All-contains, All-weaker}
-use Rattle.law_order.specs.pg_run.pg_base.declared.id.FileId.{FileId}
-use Rattle.law_order.specs.pg_run.pg_base.declared.stamp.Stamp.{Stamp}
-use Rattle.law_order.specs.pg_run.pg_base.Stamp.{is_before}
-use Rattle.law_order.specs.pg_run.pg_call.declared.call.Call.TheVariants.{Rmdir}
-use Rattle.law_order.specs.pg_run.pg_call.declared.reply.Reply.TheVariants.{Done as IsDone}
-use Rattle.law_order.specs.pg_run.pg_checks.Answer.{Answer, answer, answered, deny}
-use Rattle.law_order.specs.pg_run.pg_checks.Asking.{ask_by, fetch, fresh_wish, holder, standing}
-use Rattle.law_order.specs.pg_run.pg_checks.Checks.{empty_dir_at}
-use Rattle.law_order.specs.pg_run.pg_calls.Naming.{dead_place, taken_away}
-use Rattle.law_order.specs.pg_run.pg_cells.Raised.{IsFlagMade}
-use Rattle.law_order.specs.pg_run.pg_content.Content.{Among}
-use Rattle.law_order.specs.pg_run.pg_event.declared.event.Event.{Event}
-use Rattle.law_order.specs.pg_run.pg_event.declared.event.Event.TheVariants.{Call as Called}
-use Rattle.law_order.specs.pg_run.pg_house.Facts.{AreOrdered, IsHeld}
-use Rattle.law_order.specs.pg_run.pg_house.Work.{state_of}
-use Rattle.law_order.proofs.pg_run.pg_house.Lasting.{drawn_late}
-use Rattle.law_order.proofs.pg_run.pg_house.Touches.{Touches}
-use Rattle.law_order.proofs.pg_run.pg_house.Truths.{chosen_true}
-use Rattle.law_order.specs.pg_run.pg_lookup.declared.paths.Found.{Found}
-use Rattle.law_order.specs.pg_run.pg_lookup.declared.paths.LookupError.{LookupError}
-use Rattle.law_order.specs.pg_run.pg_lookup.declared.paths.LookupError.TheVariants as stop
-use Rattle.law_order.specs.pg_run.pg_msg.declared.message.Message.TheVariants as message
-use Rattle.law_order.specs.pg_run.pg_msg.declared.update.Update.{Update}
-use Rattle.law_order.specs.pg_run.pg_msg.declared.update.Update.TheVariants as update
-use Rattle.law_order.specs.pg_run.pg_msg.declared.work.Work.{Work}
-use Rattle.law_order.specs.pg_run.pg_msg.Work.{new_work, with_made}
-use Rattle.law_order.specs.pg_run.pg_names.declared.attributes.Attributes.{Attributes}
-use Rattle.law_order.specs.pg_run.pg_names.Names.{NamesValue, cell_at, is_place_new, join_place, known, own_at, raise, with_place}
-use Rattle.law_order.proofs.pg_run.pg_names.Lookups.{SameFrame, own_back, own_with_place, place_cell, place_other, place_same, update_frame}
-use Rattle.law_order.specs.pg_run.pg_pieces.Done.{Done, idle}
-use Rattle.law_order.specs.pg_run.pg_pieces.Posting.{post}
-use Rattle.law_order.specs.pg_run.pg_register.declared.place.Place.{Place}
-use Rattle.law_order.specs.pg_run.pg_server.declared.input.Input.{Input}
-use Rattle.law_order.specs.pg_run.pg_server.declared.input.Input.TheVariants as input
-use Rattle.law_order.specs.pg_run.pg_server.Local.{done_of, first_effect, takes_effect}
-use Rattle.law_order.specs.pg_run.pg_store.declared.store.Store.{Store}
-use Rattle.law_order.specs.pg_run.pg_store.declared.wishes.Wish.{Wish}
-use Rattle.law_order.specs.pg_run.pg_store.Births.{with_birth, with_wish}
-use Rattle.law_order.specs.pg_run.pg_store.Store.{is_newer_place, put_place}
-use Rattle.law_order.specs.pg_run.theory_flood_pieces.Whole.{IsWhole}
-use Rattle.law_order.proofs.pg_run.theory_flood_pieces.Choices.{chosen}
-use Rattle.law_order.specs.pg_run.Laws.{HouseIsInOrder, IsInOrder}
-use Rattle.law_order.specs.pg_run.Run.{Step, Taking, World, effect_step, first_made, idle_step, is_live, made_behind, next, run, taking_in, why_void}
-use Rattle.law_order.proofs.pg_run.Frame.{acts_is, next_is}
-use Rattle.law_order.proofs.pg_run.Lists.{among_contained, among_parts, contained_among}
-use Rattle.law_order.proofs.pg_run.Makes.{is_made_in_parts}
+use Rattle.pg_run.specs.pg_base.declared.id.FileId.{FileId}
+use Rattle.pg_run.specs.pg_base.declared.stamp.Stamp.{Stamp}
+use Rattle.pg_run.specs.pg_base.Stamp.{is_before}
+use Rattle.pg_run.specs.pg_call.declared.call.Call.TheVariants.{Rmdir}
+use Rattle.pg_run.specs.pg_call.declared.reply.Reply.TheVariants.{Done as IsDone}
+use Rattle.pg_run.specs.pg_checks.Answer.{Answer, answer, answered, deny}
+use Rattle.pg_run.specs.pg_checks.Asking.{ask_by, fetch, fresh_wish, holder, standing}
+use Rattle.pg_run.specs.pg_checks.Checks.{empty_dir_at}
+use Rattle.pg_run.specs.pg_calls.Naming.{dead_place, taken_away}
+use Rattle.pg_run.specs.pg_cells.Raised.{IsFlagMade}
+use Rattle.pg_run.specs.pg_content.Content.{Among}
+use Rattle.pg_run.specs.pg_event.declared.event.Event.{Event}
+use Rattle.pg_run.specs.pg_event.declared.event.Event.TheVariants.{Call as Called}
+use Rattle.pg_run.specs.pg_house.Facts.{AreOrdered, IsHeld}
+use Rattle.pg_run.specs.pg_house.Work.{state_of}
+use Rattle.pg_run.proofs.pg_house.Lasting.{drawn_late}
+use Rattle.pg_run.proofs.pg_house.Touches.{Touches}
+use Rattle.pg_run.proofs.pg_house.Truths.{chosen_true}
+use Rattle.pg_run.specs.pg_lookup.declared.paths.Found.{Found}
+use Rattle.pg_run.specs.pg_lookup.declared.paths.LookupError.{LookupError}
+use Rattle.pg_run.specs.pg_lookup.declared.paths.LookupError.TheVariants as stop
+use Rattle.pg_run.specs.pg_msg.declared.message.Message.TheVariants as message
+use Rattle.pg_run.specs.pg_msg.declared.update.Update.{Update}
+use Rattle.pg_run.specs.pg_msg.declared.update.Update.TheVariants as update
+use Rattle.pg_run.specs.pg_msg.declared.work.Work.{Work}
+use Rattle.pg_run.specs.pg_msg.Work.{new_work, with_made}
+use Rattle.pg_run.specs.pg_names.declared.attributes.Attributes.{Attributes}
+use Rattle.pg_run.specs.pg_names.Names.{NamesValue, cell_at, is_place_new, join_place, known, own_at, raise, with_place}
+use Rattle.pg_run.proofs.pg_names.Lookups.{SameFrame, own_back, own_with_place, place_cell, place_other, place_same, update_frame}
+use Rattle.pg_run.specs.pg_pieces.Done.{Done, idle}
+use Rattle.pg_run.specs.pg_pieces.Posting.{post}
+use Rattle.pg_run.specs.pg_register.declared.place.Place.{Place}
+use Rattle.pg_run.specs.pg_server.declared.input.Input.{Input}
+use Rattle.pg_run.specs.pg_server.declared.input.Input.TheVariants as input
+use Rattle.pg_run.specs.pg_server.Local.{done_of, first_effect, takes_effect}
+use Rattle.pg_run.specs.pg_store.declared.store.Store.{Store}
+use Rattle.pg_run.specs.pg_store.declared.wishes.Wish.{Wish}
+use Rattle.pg_run.specs.pg_store.Births.{with_birth, with_wish}
+use Rattle.pg_run.specs.pg_store.Store.{is_newer_place, put_place}
+use Rattle.pg_run.specs.theory_flood_pieces.Whole.{IsWhole}
+use Rattle.pg_run.proofs.theory_flood_pieces.Choices.{chosen}
+use Rattle.pg_run.specs.Laws.{HouseIsInOrder, IsInOrder}
+use Rattle.pg_run.specs.Run.{Step, Taking, World, effect_step, first_made, idle_step, is_live, made_behind, next, run, taking_in, why_void}
+use Rattle.pg_run.proofs.Frame.{acts_is, next_is}
+use Rattle.pg_run.proofs.Lists.{among_contained, among_parts, contained_among}
+use Rattle.pg_run.proofs.Makes.{is_made_in_parts}
 use Rattle.law_names.proofs.Notes.{place_noted_made}
 use Rattle.law_names.proofs.law_passing.Times.{earlier, less}
 use Rattle.law_order.specs.Laws.{FirstEffectsAreOrdered, FirstEffectsAreWhole, ServersAreWhole}

@@ -7,41 +7,41 @@ use Rattle.std.proofs.lemmas.List.{append-nil, append_assoc, get_or-map}
 use Rattle.std.proofs.lemmas.List.Folds.{Any-from_list_any}
 use Rattle.std.proofs.lemmas.Map.Entries.{length-values_of}
 use Rattle.std.proofs.lemmas.Option.{none-some}
-use Rattle.law_order.specs.pg_run.pg_base.declared.id.FileId.{FileId}
-use Rattle.law_order.specs.pg_run.pg_base.Id.{file_cmp}
-use Rattle.law_order.proofs.pg_run.pg_base.Entries.{lookup-place}
-use Rattle.law_order.proofs.pg_run.pg_base.Orders.{file_total, is_same_file-true}
-use Rattle.law_order.specs.pg_run.pg_edges.declared.key.Key.TheVariants as key
-use Rattle.law_order.specs.pg_run.pg_entries.declared.entry.Entry.{Entry}
-use Rattle.law_order.specs.pg_run.pg_entries.Entry.{entry_of, is_listed, lists_any}
-use Rattle.law_order.specs.pg_run.pg_register.declared.place.Place.{Place}
-use Rattle.law_order.specs.pg_run.pg_register.Place.{root, tilde_name}
-use Rattle.law_order.specs.pg_run.pg_msg.declared.update.Update.{Update}
-use Rattle.law_order.specs.pg_run.pg_msg.declared.update.Update.TheVariants as update
-use Rattle.law_order.specs.pg_run.pg_msg.Work.{with_made, with_touched}
-use Rattle.law_order.specs.pg_run.pg_names.declared.attributes.Attributes.{Attributes}
-use Rattle.law_order.specs.pg_run.pg_names.Names.{InodeValue, NamesValue, cell_at, directories, entry_in, is_dir, known, or_blank, own_at, own_or_blank, with_last, with_own}
-use Rattle.law_order.specs.pg_run.pg_house.Work.{State}
-use Rattle.law_order.specs.pg_run.pg_house.Passing.{greatest, pass, pass_all}
-use Rattle.law_order.specs.pg_run.pg_house.Placing.{drawn, live_place, made_at, own_with, place_at, placed, repeated}
-use Rattle.law_order.specs.pg_run.pg_house.Returning.{first_returning, is_dead, is_returning, is_returning_held, is_root, return_first, returned}
-use Rattle.law_order.specs.pg_run.pg_house.Cycles.{break_first, first_moving, is_live_own, moved}
-use Rattle.law_order.specs.pg_run.pg_house.House.{house, movable}
-use Rattle.law_order.specs.pg_run.pg_house.Facts.{AreByServer, AreOrdered, IsHeld, IsLast, IsOfDirs}
-use Rattle.law_order.proofs.pg_run.pg_house.AllClimb.{IsDeep, member_deep, moving_member}
-use Rattle.law_order.proofs.pg_run.pg_house.AllReturned.{not_root, returning_by}
-use Rattle.law_order.proofs.pg_run.pg_house.Counting.{find_found}
-use Rattle.law_order.proofs.pg_run.pg_house.Ends.{first_dirs, one_last, one_settled}
-use Rattle.law_order.proofs.pg_run.pg_house.AfterPassing.{AreDirs}
-use Rattle.law_order.proofs.pg_run.pg_house.Made.{all_made, left_made, pass_made}
-use Rattle.law_order.proofs.pg_run.pg_house.NoCycles.{inner_parts, some_dirs}
-use Rattle.law_order.proofs.pg_run.pg_house.Ordered.{changed_ordered, pass_ordered}
-use Rattle.law_order.proofs.pg_run.pg_house.Passes.{AllPass, all_pass}
-use Rattle.law_order.proofs.pg_run.pg_house.Repeating.{repeated_keeps}
-use Rattle.law_order.proofs.pg_run.pg_house.Settling.{dirs_held}
-use Rattle.law_order.specs.pg_run.Took.{Take, is_held, own_place, place_in, take_of}
-use Rattle.law_order.specs.pg_run.Took.Taker.{InDir, Itself}
-use Rattle.law_order.specs.pg_run.Passed.{passed, passed_with}
+use Rattle.pg_run.specs.pg_base.declared.id.FileId.{FileId}
+use Rattle.pg_run.specs.pg_base.Id.{file_cmp}
+use Rattle.pg_run.proofs.pg_base.Entries.{lookup-place}
+use Rattle.pg_run.proofs.pg_base.Orders.{file_total, is_same_file-true}
+use Rattle.pg_run.specs.pg_edges.declared.key.Key.TheVariants as key
+use Rattle.pg_run.specs.pg_entries.declared.entry.Entry.{Entry}
+use Rattle.pg_run.specs.pg_entries.Entry.{entry_of, is_listed, lists_any}
+use Rattle.pg_run.specs.pg_register.declared.place.Place.{Place}
+use Rattle.pg_run.specs.pg_register.Place.{root, tilde_name}
+use Rattle.pg_run.specs.pg_msg.declared.update.Update.{Update}
+use Rattle.pg_run.specs.pg_msg.declared.update.Update.TheVariants as update
+use Rattle.pg_run.specs.pg_msg.Work.{with_made, with_touched}
+use Rattle.pg_run.specs.pg_names.declared.attributes.Attributes.{Attributes}
+use Rattle.pg_run.specs.pg_names.Names.{InodeValue, NamesValue, cell_at, directories, entry_in, is_dir, known, or_blank, own_at, own_or_blank, with_last, with_own}
+use Rattle.pg_run.specs.pg_house.Work.{State}
+use Rattle.pg_run.specs.pg_house.Passing.{greatest, pass, pass_all}
+use Rattle.pg_run.specs.pg_house.Placing.{drawn, live_place, made_at, own_with, place_at, placed, repeated}
+use Rattle.pg_run.specs.pg_house.Returning.{first_returning, is_dead, is_returning, is_returning_held, is_root, return_first, returned}
+use Rattle.pg_run.specs.pg_house.Cycles.{break_first, first_moving, is_live_own, moved}
+use Rattle.pg_run.specs.pg_house.House.{house, movable}
+use Rattle.pg_run.specs.pg_house.Facts.{AreByServer, AreOrdered, IsHeld, IsLast, IsOfDirs}
+use Rattle.pg_run.proofs.pg_house.AllClimb.{IsDeep, member_deep, moving_member}
+use Rattle.pg_run.proofs.pg_house.AllReturned.{not_root, returning_by}
+use Rattle.pg_run.proofs.pg_house.Counting.{find_found}
+use Rattle.pg_run.proofs.pg_house.Ends.{first_dirs, one_last, one_settled}
+use Rattle.pg_run.proofs.pg_house.AfterPassing.{AreDirs}
+use Rattle.pg_run.proofs.pg_house.Made.{all_made, left_made, pass_made}
+use Rattle.pg_run.proofs.pg_house.NoCycles.{inner_parts, some_dirs}
+use Rattle.pg_run.proofs.pg_house.Ordered.{changed_ordered, pass_ordered}
+use Rattle.pg_run.proofs.pg_house.Passes.{AllPass, all_pass}
+use Rattle.pg_run.proofs.pg_house.Repeating.{repeated_keeps}
+use Rattle.pg_run.proofs.pg_house.Settling.{dirs_held}
+use Rattle.pg_run.specs.Took.{Take, is_held, own_place, place_in, take_of}
+use Rattle.pg_run.specs.Took.Taker.{InDir, Itself}
+use Rattle.pg_run.specs.Passed.{passed, passed_with}
 use Rattle.law_names.specs.law_passing.Tells.{AreApart, Tells}
 use Rattle.law_names.proofs.law_passing.Coming.{all_come, held_by_keys, others_still}
 use Rattle.law_names.proofs.law_passing.Movable.{is_movable, not_movable}

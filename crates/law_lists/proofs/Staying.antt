@@ -6,40 +6,40 @@ use Rattle.std.proofs.lemmas.Bool.{false≢true, and_parts, or_left, or_right}
 use Rattle.std.proofs.lemmas.List.{append-nil, append_assoc}
 use Rattle.std.proofs.lemmas.List.Elements.{All-append, All-cons, All-nil}
 use Rattle.std.proofs.lemmas.Option.{none-some, same_Some}
-use Rattle.law_order.specs.pg_run.pg_base.declared.id.FileId.{FileId}
-use Rattle.law_order.specs.pg_run.pg_base.Id.{is_same_file}
-use Rattle.law_order.specs.pg_run.pg_base.Stamp.{is_before}
-use Rattle.law_order.proofs.pg_run.pg_base.Orders.{is_same_file-refl, is_same_file-true}
-use Rattle.law_order.specs.pg_run.pg_edges.declared.key.Key.TheVariants as key
-use Rattle.law_order.specs.pg_run.pg_entries.declared.entry.Entry.{Entry}
-use Rattle.law_order.specs.pg_run.pg_entries.Entry.{is_listed}
-use Rattle.law_order.specs.pg_run.pg_register.declared.place.Place.{Place}
-use Rattle.law_order.specs.pg_run.pg_register.Place.{newer_place, root, tilde_name}
-use Rattle.law_order.specs.pg_run.pg_msg.declared.update.Update.{Update}
-use Rattle.law_order.specs.pg_run.pg_msg.declared.update.Update.TheVariants as update
-use Rattle.law_order.specs.pg_run.pg_msg.Work.{with_made, with_touched}
-use Rattle.law_order.specs.pg_run.pg_names.declared.attributes.Attributes.{Attributes}
-use Rattle.law_order.specs.pg_run.pg_names.Names.{NamesValue, cell_at, directories, is_dir, own_at, with_last}
-use Rattle.law_order.proofs.pg_run.pg_names.Lookups.{own_other}
-use Rattle.law_order.specs.pg_run.pg_house.Work.{State}
-use Rattle.law_order.specs.pg_run.pg_house.Passing.{greatest, is_held_back, joined_with, own_taken, pass, pass_all}
-use Rattle.law_order.specs.pg_run.pg_house.Placing.{drawn, live_place, made_at, own_with, place_at, placed, repeated}
-use Rattle.law_order.specs.pg_run.pg_house.Returning.{first_returning, is_root, return_first}
-use Rattle.law_order.specs.pg_run.pg_house.Cycles.{break_first, first_moving, is_live_own, moved}
-use Rattle.law_order.specs.pg_run.pg_house.House.{house, movable}
-use Rattle.law_order.specs.pg_run.pg_house.Facts.{AreByServer, AreOrdered, HasPassed, IsOfDirs, NoDeadLists, OwnParent, Passing, is_among}
-use Rattle.law_order.proofs.pg_run.pg_house.AfterPassing.{AreDirs}
-use Rattle.law_order.proofs.pg_run.pg_house.AllClimb.{IsDeep, member_deep, moving_member}
-use Rattle.law_order.proofs.pg_run.pg_house.Ends.{first_dirs}
-use Rattle.law_order.proofs.pg_run.pg_house.Idle.{AreHeld, pass_idle}
-use Rattle.law_order.proofs.pg_run.pg_house.Made.{all_made, left_made, pass_made}
-use Rattle.law_order.proofs.pg_run.pg_house.NoCycles.{some_dirs}
-use Rattle.law_order.proofs.pg_run.pg_house.Ordered.{pass_ordered}
-use Rattle.law_order.proofs.pg_run.pg_house.Passes.{one_pass, pass_touches}
-use Rattle.law_order.proofs.pg_run.pg_house.Repeating.{none_returns, repeated_keeps, repeated_still}
-use Rattle.law_order.proofs.pg_run.pg_house.Settling.{dirs_held, movable_apart, none_returns_at}
-use Rattle.law_order.proofs.pg_run.pg_house.Touches.{Touches, Touches-refl, Touches-trans, kept_by}
-use Rattle.law_order.proofs.pg_run.pg_house.Truths.{bool_cases, chosen_false}
+use Rattle.pg_run.specs.pg_base.declared.id.FileId.{FileId}
+use Rattle.pg_run.specs.pg_base.Id.{is_same_file}
+use Rattle.pg_run.specs.pg_base.Stamp.{is_before}
+use Rattle.pg_run.proofs.pg_base.Orders.{is_same_file-refl, is_same_file-true}
+use Rattle.pg_run.specs.pg_edges.declared.key.Key.TheVariants as key
+use Rattle.pg_run.specs.pg_entries.declared.entry.Entry.{Entry}
+use Rattle.pg_run.specs.pg_entries.Entry.{is_listed}
+use Rattle.pg_run.specs.pg_register.declared.place.Place.{Place}
+use Rattle.pg_run.specs.pg_register.Place.{newer_place, root, tilde_name}
+use Rattle.pg_run.specs.pg_msg.declared.update.Update.{Update}
+use Rattle.pg_run.specs.pg_msg.declared.update.Update.TheVariants as update
+use Rattle.pg_run.specs.pg_msg.Work.{with_made, with_touched}
+use Rattle.pg_run.specs.pg_names.declared.attributes.Attributes.{Attributes}
+use Rattle.pg_run.specs.pg_names.Names.{NamesValue, cell_at, directories, is_dir, own_at, with_last}
+use Rattle.pg_run.proofs.pg_names.Lookups.{own_other}
+use Rattle.pg_run.specs.pg_house.Work.{State}
+use Rattle.pg_run.specs.pg_house.Passing.{greatest, is_held_back, joined_with, own_taken, pass, pass_all}
+use Rattle.pg_run.specs.pg_house.Placing.{drawn, live_place, made_at, own_with, place_at, placed, repeated}
+use Rattle.pg_run.specs.pg_house.Returning.{first_returning, is_root, return_first}
+use Rattle.pg_run.specs.pg_house.Cycles.{break_first, first_moving, is_live_own, moved}
+use Rattle.pg_run.specs.pg_house.House.{house, movable}
+use Rattle.pg_run.specs.pg_house.Facts.{AreByServer, AreOrdered, HasPassed, IsOfDirs, NoDeadLists, OwnParent, Passing, is_among}
+use Rattle.pg_run.proofs.pg_house.AfterPassing.{AreDirs}
+use Rattle.pg_run.proofs.pg_house.AllClimb.{IsDeep, member_deep, moving_member}
+use Rattle.pg_run.proofs.pg_house.Ends.{first_dirs}
+use Rattle.pg_run.proofs.pg_house.Idle.{AreHeld, pass_idle}
+use Rattle.pg_run.proofs.pg_house.Made.{all_made, left_made, pass_made}
+use Rattle.pg_run.proofs.pg_house.NoCycles.{some_dirs}
+use Rattle.pg_run.proofs.pg_house.Ordered.{pass_ordered}
+use Rattle.pg_run.proofs.pg_house.Passes.{one_pass, pass_touches}
+use Rattle.pg_run.proofs.pg_house.Repeating.{none_returns, repeated_keeps, repeated_still}
+use Rattle.pg_run.proofs.pg_house.Settling.{dirs_held, movable_apart, none_returns_at}
+use Rattle.pg_run.proofs.pg_house.Touches.{Touches, Touches-refl, Touches-trans, kept_by}
+use Rattle.pg_run.proofs.pg_house.Truths.{bool_cases, chosen_false}
 use Rattle.law_names.proofs.law_passing.Coming.{ComesTo, all_come, pass_held}
 use Rattle.law_names.proofs.law_passing.Movable.{is_movable}
 

@@ -1,18 +1,18 @@
 -- Who comes back lists a child, and in the event that removes a directory it does not come back.
 use Rattle.std.specs.Prelude.{ℕ, ◌≡◌, true, false, Contains, List, Some, slice_get}
-use Rattle.law_order.specs.pg_run.pg_base.declared.id.FileId.{FileId}
-use Rattle.law_order.specs.pg_run.pg_call.declared.call.Call.TheVariants.{Rmdir}
-use Rattle.law_order.specs.pg_run.pg_event.declared.event.Event.{Event}
-use Rattle.law_order.specs.pg_run.pg_event.declared.event.Event.TheVariants.{Call as Called}
-use Rattle.law_order.specs.pg_run.pg_house.Work.{is_root}
-use Rattle.law_order.specs.pg_run.pg_msg.declared.update.Update.TheVariants as update
-use Rattle.law_order.specs.pg_run.pg_register.declared.place.Place.{Place}
-use Rattle.law_order.specs.pg_run.pg_server.declared.input.Input.{Input}
-use Rattle.law_order.specs.pg_run.pg_server.declared.input.Input.TheVariants as input
-use Rattle.law_order.specs.pg_run.Laws.{TakesIn, took_behind}
-use Rattle.law_order.specs.pg_run.Run.{made_behind, next, run}
-use Rattle.law_order.specs.pg_run.Took.{Take, is_held, own_place, place_in}
-use Rattle.law_order.specs.pg_run.Took.Taker.{InDir}
+use Rattle.pg_run.specs.pg_base.declared.id.FileId.{FileId}
+use Rattle.pg_run.specs.pg_call.declared.call.Call.TheVariants.{Rmdir}
+use Rattle.pg_run.specs.pg_event.declared.event.Event.{Event}
+use Rattle.pg_run.specs.pg_event.declared.event.Event.TheVariants.{Call as Called}
+use Rattle.pg_run.specs.pg_house.Work.{is_root}
+use Rattle.pg_run.specs.pg_msg.declared.update.Update.TheVariants as update
+use Rattle.pg_run.specs.pg_register.declared.place.Place.{Place}
+use Rattle.pg_run.specs.pg_server.declared.input.Input.{Input}
+use Rattle.pg_run.specs.pg_server.declared.input.Input.TheVariants as input
+use Rattle.pg_run.specs.Laws.{TakesIn, took_behind}
+use Rattle.pg_run.specs.Run.{made_behind, next, run}
+use Rattle.pg_run.specs.Took.{Take, is_held, own_place, place_in}
+use Rattle.pg_run.specs.Took.Taker.{InDir}
 
 -- the directory lists this child, by what was taken: the place that it has of it is live, and in it
 pub record Lists (takes : List Take) (dir child : FileId) : Type 0 where

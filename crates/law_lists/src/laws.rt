@@ -1,7 +1,7 @@
 //! What holds of directories that come back. Each law is a clause of a function that does nothing.
 
 ghost use Rattle.std.specs.Prelude.{ℕ};
-ghost use Rattle.law_order.specs.pg_run.Laws.{HouseIsInOrder};
+ghost use Rattle.pg_run.specs.Laws.{HouseIsInOrder};
 ghost use Rattle.law_lists.specs.Laws.{RemovalsStay, ReturnsList};
 ghost use Rattle.law_names.specs.Merged.{NamesStandOn};
 ghost use Rattle.law_order.specs.Laws.{FirstEffectsAreOrdered, FirstEffectsAreWhole, ServersAreWhole};

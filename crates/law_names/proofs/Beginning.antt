@@ -2,30 +2,30 @@
 -- its Patches.
 use Rattle.std.proofs.Common.{ℕ, ◌≡◌, Bool, true, false, cond, List, [], ◌∷◌, ◌++◌, Option, None, Some, refl, sym, ap, subst, ◌∙◌, inl, inr, ◌⊎◌}
 use Rattle.std.proofs.lemmas.Bool.{false≢true, or_parts}
-use Rattle.law_passing.specs.pg_base.declared.id.FileId.{FileId}
-use Rattle.law_passing.specs.pg_base.declared.policy.Policy.{Policy}
-use Rattle.law_passing.specs.pg_base.Id.{is_same_file}
-use Rattle.law_passing.specs.pg_base.Stamp.{is_before}
-use Rattle.law_passing.proofs.pg_base.Orders.{is_same_file-refl, is_same_file-true}
-use Rattle.law_passing.specs.pg_content.Content.{Among}
-use Rattle.law_passing.proofs.pg_content.Members.{among_map, map_among}
-use Rattle.law_passing.specs.pg_register.declared.flag.Flag.{Flag}
-use Rattle.law_passing.specs.pg_register.declared.place.Place.{Place}
-use Rattle.law_passing.specs.pg_register.Flag.{IsByServer, join_flags}
-use Rattle.law_passing.specs.pg_register.Place.{blank_place, first_stamp, newer_place, root, root_place}
-use Rattle.law_passing.specs.pg_names.declared.attributes.Attributes.{Attributes}
-use Rattle.law_passing.specs.pg_names.Names.{InodeValue, NamesValue, begin, blank_own, known, new_held, or_blank, own_at, own_of, own_or_blank}
-use Rattle.law_passing.proofs.pg_names.Holding.{begun_cells, begun_known}
-use Rattle.law_passing.specs.pg_house.Facts.{IsHeld}
-use Rattle.law_passing.specs.pg_house.Passing.{is_update}
-use Rattle.law_passing.proofs.pg_house.Truths.{chosen_false}
-use Rattle.law_passing.proofs.theory_flood_pieces.Orderly.{orderly_begun}
-use Rattle.law_passing.specs.pg_store.declared.store.Store.{Store}
-use Rattle.law_passing.specs.pg_store.Beginning.{put_new}
-use Rattle.law_passing.specs.pg_run.Took.{Take, Taker, first_place, flags_of, places_of}
-use Rattle.law_passing.specs.pg_run.Took.Take.{Began, TookFlag, TookPlace}
-use Rattle.law_passing.specs.pg_run.Took.Taker.{Itself}
-use Rattle.law_passing.proofs.pg_run.Lists.{among_back, among_front, among_parts}
+use Rattle.pg_run.specs.pg_base.declared.id.FileId.{FileId}
+use Rattle.pg_run.specs.pg_base.declared.policy.Policy.{Policy}
+use Rattle.pg_run.specs.pg_base.Id.{is_same_file}
+use Rattle.pg_run.specs.pg_base.Stamp.{is_before}
+use Rattle.pg_run.proofs.pg_base.Orders.{is_same_file-refl, is_same_file-true}
+use Rattle.pg_run.specs.pg_content.Content.{Among}
+use Rattle.pg_run.proofs.pg_content.Members.{among_map, map_among}
+use Rattle.pg_run.specs.pg_register.declared.flag.Flag.{Flag}
+use Rattle.pg_run.specs.pg_register.declared.place.Place.{Place}
+use Rattle.pg_run.specs.pg_register.Flag.{IsByServer, join_flags}
+use Rattle.pg_run.specs.pg_register.Place.{blank_place, first_stamp, newer_place, root, root_place}
+use Rattle.pg_run.specs.pg_names.declared.attributes.Attributes.{Attributes}
+use Rattle.pg_run.specs.pg_names.Names.{InodeValue, NamesValue, begin, blank_own, known, new_held, or_blank, own_at, own_of, own_or_blank}
+use Rattle.pg_run.proofs.pg_names.Holding.{begun_cells, begun_known}
+use Rattle.pg_run.specs.pg_house.Facts.{IsHeld}
+use Rattle.pg_run.specs.pg_house.Passing.{is_update}
+use Rattle.pg_run.proofs.pg_house.Truths.{chosen_false}
+use Rattle.pg_run.proofs.theory_flood_pieces.Orderly.{orderly_begun}
+use Rattle.pg_run.specs.pg_store.declared.store.Store.{Store}
+use Rattle.pg_run.specs.pg_store.Beginning.{put_new}
+use Rattle.pg_run.specs.Took.{Take, Taker, first_place, flags_of, places_of}
+use Rattle.pg_run.specs.Took.Take.{Began, TookFlag, TookPlace}
+use Rattle.pg_run.specs.Took.Taker.{Itself}
+use Rattle.pg_run.proofs.Lists.{among_back, among_front, among_parts}
 use Rattle.law_names.specs.Goes.{Goes}
 use Rattle.law_passing.specs.Newest.{AreNewest, IsLatest}
 use Rattle.law_passing.specs.Tells.{HasFlag, HasPlace, Tells}

@@ -1,29 +1,29 @@
 -- A harbinger comes, a Want, a Delta, a Piece or a Later: at most a version is taken, which is
 -- nothing to names.
 use Rattle.std.proofs.Common.{ℕ, ◌≡◌, Bool, true, false, cond, List, [], ◌∷◌, ◌++◌, refl, ◌∙◌}
-use Rattle.law_passing.specs.pg_base.declared.head.Head.{Head}
-use Rattle.law_passing.specs.pg_base.declared.id.FileId.{FileId}
-use Rattle.law_passing.specs.pg_base.declared.stamp.Stamp.{Stamp}
-use Rattle.law_passing.specs.pg_entries.declared.cell.Cell.TheVariants as cell
-use Rattle.law_passing.specs.pg_msg.declared.message.Delta.{Delta}
-use Rattle.law_passing.specs.pg_msg.declared.message.Ends.{Ends}
-use Rattle.law_passing.specs.pg_msg.declared.message.Piece.{Piece}
-use Rattle.law_passing.specs.pg_msg.declared.message.Wanted.{Wanted}
-use Rattle.law_passing.specs.pg_msg.declared.work.Work.{Work}
-use Rattle.law_passing.specs.pg_msg.Work.{new_work}
-use Rattle.law_passing.specs.pg_store.declared.store.Store.{Store}
-use Rattle.law_passing.specs.pg_pieces.declared.accepting.EdgeUse.{EdgeUse}
-use Rattle.law_passing.specs.pg_pieces.declared.accepting.EdgeUse.TheVariants as manner
-use Rattle.law_passing.specs.pg_pieces.Accepting.{accept}
-use Rattle.law_passing.specs.pg_pieces.Done.{Done, idle}
-use Rattle.law_passing.specs.pg_server.pg_transfer.Delta.{delta}
-use Rattle.law_passing.specs.pg_server.pg_transfer.Harbinger.{harbinger}
-use Rattle.law_passing.specs.pg_server.pg_transfer.Later.{later}
-use Rattle.law_passing.specs.pg_server.pg_transfer.Piece.{piece}
-use Rattle.law_passing.specs.pg_server.pg_transfer.Want.{want}
-use Rattle.law_passing.specs.pg_run.Took.{Take}
-use Rattle.law_passing.specs.pg_run.Took.Take.{TookVersion}
-use Rattle.law_passing.proofs.pg_run.Transfers.{KeepsTransfers, delta_keeps, harbinger_keeps, later_keeps, piece_keeps, want_keeps}
+use Rattle.pg_run.specs.pg_base.declared.head.Head.{Head}
+use Rattle.pg_run.specs.pg_base.declared.id.FileId.{FileId}
+use Rattle.pg_run.specs.pg_base.declared.stamp.Stamp.{Stamp}
+use Rattle.pg_run.specs.pg_entries.declared.cell.Cell.TheVariants as cell
+use Rattle.pg_run.specs.pg_msg.declared.message.Delta.{Delta}
+use Rattle.pg_run.specs.pg_msg.declared.message.Ends.{Ends}
+use Rattle.pg_run.specs.pg_msg.declared.message.Piece.{Piece}
+use Rattle.pg_run.specs.pg_msg.declared.message.Wanted.{Wanted}
+use Rattle.pg_run.specs.pg_msg.declared.work.Work.{Work}
+use Rattle.pg_run.specs.pg_msg.Work.{new_work}
+use Rattle.pg_run.specs.pg_store.declared.store.Store.{Store}
+use Rattle.pg_run.specs.pg_pieces.declared.accepting.EdgeUse.{EdgeUse}
+use Rattle.pg_run.specs.pg_pieces.declared.accepting.EdgeUse.TheVariants as manner
+use Rattle.pg_run.specs.pg_pieces.Accepting.{accept}
+use Rattle.pg_run.specs.pg_pieces.Done.{Done, idle}
+use Rattle.pg_run.specs.pg_server.pg_transfer.Delta.{delta}
+use Rattle.pg_run.specs.pg_server.pg_transfer.Harbinger.{harbinger}
+use Rattle.pg_run.specs.pg_server.pg_transfer.Later.{later}
+use Rattle.pg_run.specs.pg_server.pg_transfer.Piece.{piece}
+use Rattle.pg_run.specs.pg_server.pg_transfer.Want.{want}
+use Rattle.pg_run.specs.Took.{Take}
+use Rattle.pg_run.specs.Took.Take.{TookVersion}
+use Rattle.pg_run.proofs.Transfers.{KeepsTransfers, delta_keeps, harbinger_keeps, later_keeps, piece_keeps, want_keeps}
 use Rattle.law_names.specs.Goes.{Goes}
 use Rattle.law_names.proofs.Going.{goes_noted, goes_on, goes_taken}
 use Rattle.law_names.proofs.Notes.{accepted_still, taken_made}

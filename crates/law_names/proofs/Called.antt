@@ -1,21 +1,21 @@
 -- A call: what it makes, and what comes by it, is what the server knows more then.
 use Rattle.std.proofs.Common.{ℕ, List, ◌++◌}
-use Rattle.law_passing.specs.pg_base.declared.id.Kind.{Kind}
-use Rattle.law_passing.specs.pg_msg.Work.{new_work}
-use Rattle.law_passing.specs.pg_call.declared.call.Call.{Call}
-use Rattle.law_passing.specs.pg_call.declared.call.Call.TheVariants as call
-use Rattle.law_passing.specs.pg_store.declared.store.Store.{Store}
-use Rattle.law_passing.specs.pg_store.Seen.{removed_of}
-use Rattle.law_passing.specs.pg_checks.Answer.{Answer}
-use Rattle.law_passing.specs.pg_calls.Calls.{do_call}
-use Rattle.law_passing.specs.pg_calls.Forgetting.{lost_at}
-use Rattle.law_passing.specs.pg_calls.GivingUp.{removal_at}
-use Rattle.law_passing.specs.pg_calls.Naming.{next_id}
-use Rattle.law_passing.specs.pg_server.declared.input.Input.TheVariants as input
-use Rattle.law_passing.specs.pg_run.Carried.{came_by}
-use Rattle.law_passing.specs.pg_run.Known.{Told}
-use Rattle.law_passing.specs.pg_run.Run.{made_takes}
-use Rattle.law_passing.specs.pg_run.Took.{Take}
+use Rattle.pg_run.specs.pg_base.declared.id.Kind.{Kind}
+use Rattle.pg_run.specs.pg_msg.Work.{new_work}
+use Rattle.pg_run.specs.pg_call.declared.call.Call.{Call}
+use Rattle.pg_run.specs.pg_call.declared.call.Call.TheVariants as call
+use Rattle.pg_run.specs.pg_store.declared.store.Store.{Store}
+use Rattle.pg_run.specs.pg_store.Seen.{removed_of}
+use Rattle.pg_run.specs.pg_checks.Answer.{Answer}
+use Rattle.pg_run.specs.pg_calls.Calls.{do_call}
+use Rattle.pg_run.specs.pg_calls.Forgetting.{lost_at}
+use Rattle.pg_run.specs.pg_calls.GivingUp.{removal_at}
+use Rattle.pg_run.specs.pg_calls.Naming.{next_id}
+use Rattle.pg_run.specs.pg_server.declared.input.Input.TheVariants as input
+use Rattle.pg_run.specs.Carried.{came_by}
+use Rattle.pg_run.specs.Known.{Told}
+use Rattle.pg_run.specs.Run.{made_takes}
+use Rattle.pg_run.specs.Took.{Take}
 use Rattle.law_names.specs.Goes.{Goes}
 use Rattle.law_names.specs.Merged.{IsNewId}
 use Rattle.law_names.proofs.Calls.{create_is, cut_is, demote_is, drop_is, fresh_is, ls_is, mkdir_is, read_is, rename_is, rmdir_is, stat_is, status_is, stop_is, unlink_is, write_is}

@@ -1,73 +1,73 @@
 -- What calls make, and what begins, is what the server knows more then.
 use Rattle.std.proofs.Common.{ℕ, ◌≡◌, ◌==◌, Bool, true, false, cond, List, [], ◌∷◌, ◌++◌, map, Option, None, Some, Result, Ok, Err, refl, sym, subst, ◌∙◌, inl}
 use Rattle.std.specs.List.{flat_map}
-use Rattle.law_passing.specs.pg_base.declared.id.FileId.{FileId}
-use Rattle.law_passing.specs.pg_base.declared.id.Kind.{Kind}
-use Rattle.law_passing.specs.pg_base.declared.id.Kind.TheVariants.{Dir, File}
-use Rattle.law_passing.specs.pg_base.declared.policy.Policy.{Policy}
-use Rattle.law_passing.specs.pg_base.declared.policy.Policy.TheVariants.{Last}
-use Rattle.law_passing.specs.pg_base.declared.stamp.Stamp.{Stamp}
-use Rattle.law_passing.specs.pg_base.Id.{is_same_file}
-use Rattle.law_passing.specs.pg_register.declared.flag.Flag.{Flag}
-use Rattle.law_passing.specs.pg_register.declared.place.Place.{Place}
-use Rattle.law_passing.specs.pg_register.Flag.{is_raised}
-use Rattle.law_passing.specs.pg_register.Place.{root}
-use Rattle.law_passing.proofs.pg_register.ByServer.{IsByServer-nil}
-use Rattle.law_passing.specs.pg_patch.Ranges as ranges
-use Rattle.law_passing.specs.pg_patch.Ranges.{RangesValue}
-use Rattle.law_passing.specs.pg_intent.declared.intent.Intent.{Intent}
-use Rattle.law_passing.specs.pg_intent.declared.intent.Intent.TheVariants as intent
-use Rattle.law_passing.specs.pg_intent.declared.key.IntentKey.TheVariants as intent_key
-use Rattle.law_passing.specs.pg_msg.declared.message.Message.TheVariants as message
-use Rattle.law_passing.specs.pg_msg.declared.update.Update.{Update}
-use Rattle.law_passing.specs.pg_msg.declared.work.Work.{Work}
-use Rattle.law_passing.specs.pg_msg.Work.{new_work}
-use Rattle.law_passing.specs.pg_call.declared.call.Call.TheVariants as call
-use Rattle.law_passing.specs.pg_call.declared.call.Target.{Target}
-use Rattle.law_passing.specs.pg_call.declared.refusal.Refusal.TheVariants.{Loop, NotEmpty, Root}
-use Rattle.law_passing.specs.pg_names.declared.attributes.Attributes.{Attributes}
-use Rattle.law_passing.specs.pg_names.Names.{NamesValue, blank_own, is_dir, known, or_blank, own_at}
-use Rattle.law_passing.specs.pg_house.Facts.{IsHeld}
-use Rattle.law_passing.specs.pg_house.Returning.{is_root}
-use Rattle.law_passing.proofs.theory_flood_pieces.Choices.{chosen, decided}
-use Rattle.law_passing.specs.pg_lookup.declared.paths.Found.{Found}
-use Rattle.law_passing.specs.pg_lookup.declared.paths.LookupError.{LookupError}
-use Rattle.law_passing.specs.pg_lookup.declared.paths.LookupError.TheVariants as stop
-use Rattle.law_passing.specs.pg_lookup.Chain.{is_above}
-use Rattle.law_passing.specs.pg_lookup.Walk.{and_then, reach, reach_parent}
-use Rattle.law_passing.specs.pg_store.declared.store.Store.{Store}
-use Rattle.law_passing.specs.pg_store.declared.wishes.Wish.{Wish}
-use Rattle.law_passing.specs.pg_store.Beginning.{patches_of}
-use Rattle.law_passing.specs.pg_store.Births.{birth_of, draw_birth, with_birth, with_wish}
-use Rattle.law_passing.specs.pg_store.Seen.{server_of}
-use Rattle.law_passing.specs.pg_store.Store.{is_held}
-use Rattle.law_passing.specs.pg_pieces.Done.{Done, idle}
-use Rattle.law_passing.specs.pg_pieces.Golds.{is_gold}
-use Rattle.law_passing.specs.pg_pieces.Making.{lower_flag, own_next}
-use Rattle.law_passing.specs.pg_pieces.Posting.{post}
-use Rattle.law_passing.specs.pg_checks.declared.checks.Move.{Move}
-use Rattle.law_passing.specs.pg_checks.declared.checks.NewName.{NewName}
-use Rattle.law_passing.specs.pg_checks.Answer.{Answer, answered, deny, unless}
-use Rattle.law_passing.specs.pg_checks.Asking.{ask_by, ask_first, fetch, fresh_wish, holder, standing}
-use Rattle.law_passing.specs.pg_calls.Bodies.{change, change_file, when_fit}
-use Rattle.law_passing.specs.pg_calls.Calls.{do_call}
-use Rattle.law_passing.specs.pg_checks.Checks.{dir_at, empty_dir_at, file_at, first_child, in_time, move_along, move_of, move_to, new_name, new_name_in, target_at, unless_child}
-use Rattle.law_passing.specs.pg_calls.Demoting.{demoted_at, lowered}
-use Rattle.law_passing.specs.pg_calls.Dropping.{clean_gold, dropped_at, leave_of, leaving}
-use Rattle.law_passing.specs.pg_calls.Looks.{freshness}
-use Rattle.law_passing.specs.pg_calls.Making.{drawn, first_ranges, make_place}
-use Rattle.law_passing.specs.pg_calls.Naming.{begun, dead_place, next_id, place_in, with_id, with_thing}
-use Rattle.law_passing.specs.pg_checks.Paths.{paths_of}
-use Rattle.law_passing.proofs.pg_calls.Checked.{behind, no_ok, same_ok, unless_ok}
-use Rattle.law_passing.proofs.pg_calls.Walked.{file_found, full_own, reach_ok, thing_found}
-use Rattle.law_passing.specs.pg_run.pg_announced.Announced.{first_of}
-use Rattle.law_passing.specs.pg_run.Carried.{begun_by, patch_taken}
-use Rattle.law_passing.specs.pg_run.Took.{Take, entry_takes, take_of}
-use Rattle.law_passing.specs.pg_run.Took.Take.{Began}
-use Rattle.law_passing.proofs.pg_run.Lists.{among_back}
+use Rattle.pg_run.specs.pg_base.declared.id.FileId.{FileId}
+use Rattle.pg_run.specs.pg_base.declared.id.Kind.{Kind}
+use Rattle.pg_run.specs.pg_base.declared.id.Kind.TheVariants.{Dir, File}
+use Rattle.pg_run.specs.pg_base.declared.policy.Policy.{Policy}
+use Rattle.pg_run.specs.pg_base.declared.policy.Policy.TheVariants.{Last}
+use Rattle.pg_run.specs.pg_base.declared.stamp.Stamp.{Stamp}
+use Rattle.pg_run.specs.pg_base.Id.{is_same_file}
+use Rattle.pg_run.specs.pg_register.declared.flag.Flag.{Flag}
+use Rattle.pg_run.specs.pg_register.declared.place.Place.{Place}
+use Rattle.pg_run.specs.pg_register.Flag.{is_raised}
+use Rattle.pg_run.specs.pg_register.Place.{root}
+use Rattle.pg_run.proofs.pg_register.ByServer.{IsByServer-nil}
+use Rattle.pg_run.specs.pg_patch.Ranges as ranges
+use Rattle.pg_run.specs.pg_patch.Ranges.{RangesValue}
+use Rattle.pg_run.specs.pg_intent.declared.intent.Intent.{Intent}
+use Rattle.pg_run.specs.pg_intent.declared.intent.Intent.TheVariants as intent
+use Rattle.pg_run.specs.pg_intent.declared.key.IntentKey.TheVariants as intent_key
+use Rattle.pg_run.specs.pg_msg.declared.message.Message.TheVariants as message
+use Rattle.pg_run.specs.pg_msg.declared.update.Update.{Update}
+use Rattle.pg_run.specs.pg_msg.declared.work.Work.{Work}
+use Rattle.pg_run.specs.pg_msg.Work.{new_work}
+use Rattle.pg_run.specs.pg_call.declared.call.Call.TheVariants as call
+use Rattle.pg_run.specs.pg_call.declared.call.Target.{Target}
+use Rattle.pg_run.specs.pg_call.declared.refusal.Refusal.TheVariants.{Loop, NotEmpty, Root}
+use Rattle.pg_run.specs.pg_names.declared.attributes.Attributes.{Attributes}
+use Rattle.pg_run.specs.pg_names.Names.{NamesValue, blank_own, is_dir, known, or_blank, own_at}
+use Rattle.pg_run.specs.pg_house.Facts.{IsHeld}
+use Rattle.pg_run.specs.pg_house.Returning.{is_root}
+use Rattle.pg_run.proofs.theory_flood_pieces.Choices.{chosen, decided}
+use Rattle.pg_run.specs.pg_lookup.declared.paths.Found.{Found}
+use Rattle.pg_run.specs.pg_lookup.declared.paths.LookupError.{LookupError}
+use Rattle.pg_run.specs.pg_lookup.declared.paths.LookupError.TheVariants as stop
+use Rattle.pg_run.specs.pg_lookup.Chain.{is_above}
+use Rattle.pg_run.specs.pg_lookup.Walk.{and_then, reach, reach_parent}
+use Rattle.pg_run.specs.pg_store.declared.store.Store.{Store}
+use Rattle.pg_run.specs.pg_store.declared.wishes.Wish.{Wish}
+use Rattle.pg_run.specs.pg_store.Beginning.{patches_of}
+use Rattle.pg_run.specs.pg_store.Births.{birth_of, draw_birth, with_birth, with_wish}
+use Rattle.pg_run.specs.pg_store.Seen.{server_of}
+use Rattle.pg_run.specs.pg_store.Store.{is_held}
+use Rattle.pg_run.specs.pg_pieces.Done.{Done, idle}
+use Rattle.pg_run.specs.pg_pieces.Golds.{is_gold}
+use Rattle.pg_run.specs.pg_pieces.Making.{lower_flag, own_next}
+use Rattle.pg_run.specs.pg_pieces.Posting.{post}
+use Rattle.pg_run.specs.pg_checks.declared.checks.Move.{Move}
+use Rattle.pg_run.specs.pg_checks.declared.checks.NewName.{NewName}
+use Rattle.pg_run.specs.pg_checks.Answer.{Answer, answered, deny, unless}
+use Rattle.pg_run.specs.pg_checks.Asking.{ask_by, ask_first, fetch, fresh_wish, holder, standing}
+use Rattle.pg_run.specs.pg_calls.Bodies.{change, change_file, when_fit}
+use Rattle.pg_run.specs.pg_calls.Calls.{do_call}
+use Rattle.pg_run.specs.pg_checks.Checks.{dir_at, empty_dir_at, file_at, first_child, in_time, move_along, move_of, move_to, new_name, new_name_in, target_at, unless_child}
+use Rattle.pg_run.specs.pg_calls.Demoting.{demoted_at, lowered}
+use Rattle.pg_run.specs.pg_calls.Dropping.{clean_gold, dropped_at, leave_of, leaving}
+use Rattle.pg_run.specs.pg_calls.Looks.{freshness}
+use Rattle.pg_run.specs.pg_calls.Making.{drawn, first_ranges, make_place}
+use Rattle.pg_run.specs.pg_calls.Naming.{begun, dead_place, next_id, place_in, with_id, with_thing}
+use Rattle.pg_run.specs.pg_checks.Paths.{paths_of}
+use Rattle.pg_run.proofs.pg_calls.Checked.{behind, no_ok, same_ok, unless_ok}
+use Rattle.pg_run.proofs.pg_calls.Walked.{file_found, full_own, reach_ok, thing_found}
+use Rattle.pg_run.specs.pg_announced.Announced.{first_of}
+use Rattle.pg_run.specs.Carried.{begun_by, patch_taken}
+use Rattle.pg_run.specs.Took.{Take, entry_takes, take_of}
+use Rattle.pg_run.specs.Took.Take.{Began}
+use Rattle.pg_run.proofs.Lists.{among_back}
 use Rattle.law_names.specs.Goes.{Goes}
 use Rattle.law_names.specs.Merged.{IsNewId}
-use Rattle.law_passing.specs.pg_run.Known.{Told}
+use Rattle.pg_run.specs.Known.{Told}
 use Rattle.law_names.proofs.Held.{away_inner, none_of}
 use Rattle.law_names.proofs.Making.{DoneIs, flag_made, place_made, version_made}
 use Rattle.law_names.proofs.Messages.{IsReady}

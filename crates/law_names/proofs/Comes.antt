@@ -1,21 +1,21 @@
 -- A place or a flag comes to a thing that is held, or is made by the server.
 use Rattle.std.proofs.Common.{◌≡◌, false, List, [], ◌∷◌, Some, refl, sym, ap, ◌∙◌}
-use Rattle.law_passing.specs.pg_base.declared.id.FileId.{FileId}
-use Rattle.law_passing.specs.pg_base.Stamp.{is_before}
-use Rattle.law_passing.specs.pg_register.declared.flag.Flag.{Flag}
-use Rattle.law_passing.specs.pg_register.declared.place.Place.{Place}
-use Rattle.law_passing.specs.pg_register.Flag.{flag_of, is_new, join_flag, put_flag}
-use Rattle.law_passing.specs.pg_register.Place.{newer_place}
-use Rattle.law_passing.specs.pg_names.declared.attributes.Attributes.{Attributes}
-use Rattle.law_passing.specs.pg_names.Names.{NamesValue, is_flag_new, is_place_new, join_flag as names_flag, join_place, or_blank, own_at, own_or_blank, with_flag, with_place}
-use Rattle.law_passing.proofs.pg_names.Lookups.{flag_cell, flag_other, flag_same, own_back, own_with_flag, own_with_place, place_cell, place_other, place_same, update_frame}
-use Rattle.law_passing.proofs.pg_house.Truths.{chosen_false}
-use Rattle.law_passing.proofs.theory_flood_pieces.Choices.{decided}
-use Rattle.law_passing.specs.pg_store.declared.store.Store.{Store}
-use Rattle.law_passing.specs.pg_store.Store.{is_newer_flag, is_newer_place, put_flag as store_flag, put_place, take_flag, take_place}
-use Rattle.law_passing.specs.pg_run.Took.{Take, first_place}
-use Rattle.law_passing.specs.pg_run.Took.Take.{TookFlag, TookPlace}
-use Rattle.law_passing.specs.pg_run.Took.Taker.{Itself}
+use Rattle.pg_run.specs.pg_base.declared.id.FileId.{FileId}
+use Rattle.pg_run.specs.pg_base.Stamp.{is_before}
+use Rattle.pg_run.specs.pg_register.declared.flag.Flag.{Flag}
+use Rattle.pg_run.specs.pg_register.declared.place.Place.{Place}
+use Rattle.pg_run.specs.pg_register.Flag.{flag_of, is_new, join_flag, put_flag}
+use Rattle.pg_run.specs.pg_register.Place.{newer_place}
+use Rattle.pg_run.specs.pg_names.declared.attributes.Attributes.{Attributes}
+use Rattle.pg_run.specs.pg_names.Names.{NamesValue, is_flag_new, is_place_new, join_flag as names_flag, join_place, or_blank, own_at, own_or_blank, with_flag, with_place}
+use Rattle.pg_run.proofs.pg_names.Lookups.{flag_cell, flag_other, flag_same, own_back, own_with_flag, own_with_place, place_cell, place_other, place_same, update_frame}
+use Rattle.pg_run.proofs.pg_house.Truths.{chosen_false}
+use Rattle.pg_run.proofs.theory_flood_pieces.Choices.{decided}
+use Rattle.pg_run.specs.pg_store.declared.store.Store.{Store}
+use Rattle.pg_run.specs.pg_store.Store.{is_newer_flag, is_newer_place, put_flag as store_flag, put_place, take_flag, take_place}
+use Rattle.pg_run.specs.Took.{Take, first_place}
+use Rattle.pg_run.specs.Took.Take.{TookFlag, TookPlace}
+use Rattle.pg_run.specs.Took.Taker.{Itself}
 use Rattle.law_passing.specs.Tells.{Tells}
 use Rattle.law_passing.proofs.Coming.{held_by_keys}
 use Rattle.law_passing.proofs.Latest.{first_stamp_is}

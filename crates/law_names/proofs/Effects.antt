@@ -2,34 +2,34 @@
 use Rattle.std.proofs.Common.{ℕ, ◌≡◌, Bool, true, false, cond, List, [], ◌++◌, map, drop, length, Option, refl, sym, ap, subst, ◌∙◌}
 use Rattle.std.proofs.Math.Seq.{drop-append_seam}
 use Rattle.std.proofs.lemmas.List.{append_assoc}
-use Rattle.law_passing.specs.pg_base.declared.id.Kind.{Kind}
-use Rattle.law_passing.specs.pg_content.Content.{Among}
-use Rattle.law_passing.specs.pg_msg.declared.update.Update.{Update}
-use Rattle.law_passing.specs.pg_msg.Work.{new_work}
-use Rattle.law_passing.specs.pg_call.declared.reply.Reply.{Reply}
-use Rattle.law_passing.specs.pg_names.Names.{NamesValue}
-use Rattle.law_passing.proofs.pg_house.Truths.{chosen_false, chosen_true}
-use Rattle.law_passing.proofs.theory_flood_pieces.Choices.{chosen}
-use Rattle.law_passing.specs.pg_store.declared.store.Store.{Store}
-use Rattle.law_passing.specs.pg_store.Seen.{removed_of}
-use Rattle.law_passing.specs.pg_store.Store.{is_before_clock_end}
-use Rattle.law_passing.specs.pg_pieces.Done.{Done, idle}
-use Rattle.law_passing.specs.pg_cells.Ticks.{tick}
-use Rattle.law_passing.specs.pg_intentions.Requests.{ask_all}
-use Rattle.law_passing.proofs.pg_intentions.Steady.{begin_end_stays}
-use Rattle.law_passing.specs.pg_calls.Calls.{do_call}
-use Rattle.law_passing.specs.pg_calls.Naming.{next_id}
-use Rattle.law_passing.proofs.pg_calls.Late.{late_does_nothing}
-use Rattle.law_passing.specs.pg_server.declared.input.Input.{Input}
-use Rattle.law_passing.specs.pg_server.declared.input.Input.TheVariants as input
-use Rattle.law_passing.specs.pg_server.Local.{Effect, closed, effect, finished, first_effect, is_heard, receive, reply_to, settled, takes_effect, ticked, without_sources}
-use Rattle.law_passing.specs.pg_run.Asking.{Asked}
-use Rattle.law_passing.specs.pg_run.Carried.{came, carried, gone_by}
-use Rattle.law_passing.specs.pg_run.Known.{Told}
-use Rattle.law_passing.specs.pg_run.Passed.{passed, passed_with}
-use Rattle.law_passing.specs.pg_run.Run.{first_made, made_takes, removed_then, took_after, took_first}
-use Rattle.law_passing.specs.pg_run.Took.{Take, take_of, without_gone}
-use Rattle.law_passing.proofs.pg_run.Ticked.{tick_names}
+use Rattle.pg_run.specs.pg_base.declared.id.Kind.{Kind}
+use Rattle.pg_run.specs.pg_content.Content.{Among}
+use Rattle.pg_run.specs.pg_msg.declared.update.Update.{Update}
+use Rattle.pg_run.specs.pg_msg.Work.{new_work}
+use Rattle.pg_run.specs.pg_call.declared.reply.Reply.{Reply}
+use Rattle.pg_run.specs.pg_names.Names.{NamesValue}
+use Rattle.pg_run.proofs.pg_house.Truths.{chosen_false, chosen_true}
+use Rattle.pg_run.proofs.theory_flood_pieces.Choices.{chosen}
+use Rattle.pg_run.specs.pg_store.declared.store.Store.{Store}
+use Rattle.pg_run.specs.pg_store.Seen.{removed_of}
+use Rattle.pg_run.specs.pg_store.Store.{is_before_clock_end}
+use Rattle.pg_run.specs.pg_pieces.Done.{Done, idle}
+use Rattle.pg_run.specs.pg_cells.Ticks.{tick}
+use Rattle.pg_run.specs.pg_intentions.Requests.{ask_all}
+use Rattle.pg_run.proofs.pg_intentions.Steady.{begin_end_stays}
+use Rattle.pg_run.specs.pg_calls.Calls.{do_call}
+use Rattle.pg_run.specs.pg_calls.Naming.{next_id}
+use Rattle.pg_run.proofs.pg_calls.Late.{late_does_nothing}
+use Rattle.pg_run.specs.pg_server.declared.input.Input.{Input}
+use Rattle.pg_run.specs.pg_server.declared.input.Input.TheVariants as input
+use Rattle.pg_run.specs.pg_server.Local.{Effect, closed, effect, finished, first_effect, is_heard, receive, reply_to, settled, takes_effect, ticked, without_sources}
+use Rattle.pg_run.specs.Asking.{Asked}
+use Rattle.pg_run.specs.Carried.{came, carried, gone_by}
+use Rattle.pg_run.specs.Known.{Told}
+use Rattle.pg_run.specs.Passed.{passed, passed_with}
+use Rattle.pg_run.specs.Run.{first_made, made_takes, removed_then, took_after, took_first}
+use Rattle.pg_run.specs.Took.{Take, take_of, without_gone}
+use Rattle.pg_run.proofs.Ticked.{tick_names}
 use Rattle.law_names.specs.Goes.{Goes}
 use Rattle.law_names.specs.Merged.{IsNewId}
 use Rattle.law_passing.specs.Tells.{AreApart}

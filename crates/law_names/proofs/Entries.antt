@@ -2,28 +2,28 @@
 use Rattle.std.proofs.Common.{◌≡◌, false, List, [], ◌∷◌, ◌++◌, Option, None, Some, refl, sym, ap, subst, ◌∙◌, inl, inr}
 use Rattle.std.proofs.lemmas.Bool.{false≢true, or_parts}
 use Rattle.std.proofs.lemmas.Option.{none-some}
-use Rattle.law_passing.specs.pg_base.declared.id.FileId.{FileId}
-use Rattle.law_passing.specs.pg_base.Stamp.{is_before}
-use Rattle.law_passing.specs.pg_content.Content.{Among}
-use Rattle.law_passing.proofs.pg_content.Members.{among_map, map_among}
-use Rattle.law_passing.specs.pg_register.declared.flag.Flag.{Flag}
-use Rattle.law_passing.specs.pg_register.declared.place.Place.{Place}
-use Rattle.law_passing.specs.pg_register.Flag.{IsByServer, brings_news, flag_of, is_new, join_flags}
-use Rattle.law_passing.specs.pg_register.Place.{newer_place}
-use Rattle.law_passing.proofs.pg_register.ByServer.{IsByServer-join_flags, IsByServer-nil, flag_of-join_flags, same_flags}
-use Rattle.law_passing.specs.pg_entries.declared.entry.Entry.{Entry}
-use Rattle.law_passing.specs.pg_entries.Entry.{brings, entry_of, joined, joined_to}
-use Rattle.law_passing.specs.pg_names.declared.attributes.Attributes.{Attributes}
-use Rattle.law_passing.specs.pg_names.Names.{InodeValue, NamesValue, cell_at, entry_in, is_entry_new, join_entry, known, or_blank, own_at, own_of, with_joined}
-use Rattle.law_passing.proofs.pg_names.Lookups.{joined_own, joined_same, own_back, update_frame}
-use Rattle.law_passing.proofs.pg_house.Truths.{chosen_false}
-use Rattle.law_passing.proofs.theory_flood_pieces.Choices.{decided}
-use Rattle.law_passing.proofs.theory_flood_pieces.Growth.{entry_at_one}
-use Rattle.law_passing.specs.pg_store.declared.store.Store.{Store}
-use Rattle.law_passing.specs.pg_store.Store.{is_newer_entry, put_entry, take_entry}
-use Rattle.law_passing.specs.pg_run.Took.{Take, Taker, entry_takes}
-use Rattle.law_passing.specs.pg_run.Took.Take.{Began, TookFlag, TookPlace}
-use Rattle.law_passing.specs.pg_run.Took.Taker.{InDir}
+use Rattle.pg_run.specs.pg_base.declared.id.FileId.{FileId}
+use Rattle.pg_run.specs.pg_base.Stamp.{is_before}
+use Rattle.pg_run.specs.pg_content.Content.{Among}
+use Rattle.pg_run.proofs.pg_content.Members.{among_map, map_among}
+use Rattle.pg_run.specs.pg_register.declared.flag.Flag.{Flag}
+use Rattle.pg_run.specs.pg_register.declared.place.Place.{Place}
+use Rattle.pg_run.specs.pg_register.Flag.{IsByServer, brings_news, flag_of, is_new, join_flags}
+use Rattle.pg_run.specs.pg_register.Place.{newer_place}
+use Rattle.pg_run.proofs.pg_register.ByServer.{IsByServer-join_flags, IsByServer-nil, flag_of-join_flags, same_flags}
+use Rattle.pg_run.specs.pg_entries.declared.entry.Entry.{Entry}
+use Rattle.pg_run.specs.pg_entries.Entry.{brings, entry_of, joined, joined_to}
+use Rattle.pg_run.specs.pg_names.declared.attributes.Attributes.{Attributes}
+use Rattle.pg_run.specs.pg_names.Names.{InodeValue, NamesValue, cell_at, entry_in, is_entry_new, join_entry, known, or_blank, own_at, own_of, with_joined}
+use Rattle.pg_run.proofs.pg_names.Lookups.{joined_own, joined_same, own_back, update_frame}
+use Rattle.pg_run.proofs.pg_house.Truths.{chosen_false}
+use Rattle.pg_run.proofs.theory_flood_pieces.Choices.{decided}
+use Rattle.pg_run.proofs.theory_flood_pieces.Growth.{entry_at_one}
+use Rattle.pg_run.specs.pg_store.declared.store.Store.{Store}
+use Rattle.pg_run.specs.pg_store.Store.{is_newer_entry, put_entry, take_entry}
+use Rattle.pg_run.specs.Took.{Take, Taker, entry_takes}
+use Rattle.pg_run.specs.Took.Take.{Began, TookFlag, TookPlace}
+use Rattle.pg_run.specs.Took.Taker.{InDir}
 use Rattle.law_passing.specs.Newest.{AreNewest}
 use Rattle.law_passing.specs.Tells.{HasFlag, HasPlace, IsCellOf, Tells}
 use Rattle.law_passing.proofs.Coming.{held_by_keys}

@@ -3,50 +3,50 @@
 use Rattle.std.proofs.Common.{ℕ, ◌≡◌, ◌&&◌, ◌||◌, Bool, true, false, cond, not, List, [], ◌∷◌, ◌++◌, map, Option, None, Some, Result, Ok, Err, refl, sym, ap, subst, ◌∙◌, inl, inr}
 use Rattle.std.specs.List.{flat_map}
 use Rattle.std.specs.Map.{keys_of}
-use Rattle.law_passing.specs.pg_base.declared.id.FileId.{FileId}
-use Rattle.law_passing.specs.pg_base.declared.policy.Policy.TheVariants.{Last}
-use Rattle.law_passing.specs.pg_base.Id.{is_same_file}
-use Rattle.law_passing.specs.pg_base.Stamp.{is_before}
-use Rattle.law_passing.specs.pg_content.Content.{Among}
-use Rattle.law_passing.proofs.pg_content.Members.{among_filter}
-use Rattle.law_passing.specs.pg_register.declared.place.Place.{Place}
-use Rattle.law_passing.specs.pg_register.Flag.{IsByServer}
-use Rattle.law_passing.specs.pg_register.Place.{blank_place, first_stamp, root, root_place as place_of_root}
-use Rattle.law_passing.proofs.pg_register.ByServer.{IsByServer-nil}
-use Rattle.law_passing.specs.pg_intent.declared.intent.Intent.{Intent}
-use Rattle.law_passing.specs.pg_intent.declared.intent.Intent.TheVariants as intent
-use Rattle.law_passing.specs.pg_intent.declared.key.IntentKey.TheVariants as intent_key
-use Rattle.law_passing.specs.pg_intent.Intents.{ended}
-use Rattle.law_passing.proofs.pg_intent.Kept.{own-ended}
-use Rattle.law_passing.specs.pg_msg.declared.update.Update.TheVariants as update
-use Rattle.law_passing.specs.pg_msg.declared.work.Work.{Work}
-use Rattle.law_passing.specs.pg_msg.Work.{new_work, with_made}
-use Rattle.law_passing.specs.pg_call.declared.reply.Reply.TheVariants as reply
-use Rattle.law_passing.specs.pg_names.declared.attributes.Attributes.{Attributes}
-use Rattle.law_passing.specs.pg_names.Names.{NamesValue, blank_own, cell_at, is_dir, known}
-use Rattle.law_passing.specs.pg_house.Facts.{IsHeld}
-use Rattle.law_passing.proofs.pg_house.Greatest.{cell_held}
-use Rattle.law_passing.proofs.pg_house.Truths.{chosen_false}
-use Rattle.law_passing.proofs.theory_flood_pieces.Choices.{chosen}
-use Rattle.law_passing.proofs.theory_flood_pieces.Together.{own_of_held}
-use Rattle.law_passing.specs.pg_lookup.declared.paths.LookupError.{LookupError}
-use Rattle.law_passing.specs.pg_lookup.declared.paths.LookupError.TheVariants as stop
-use Rattle.law_passing.specs.pg_store.declared.store.Store.{Store}
-use Rattle.law_passing.specs.pg_store.Births.{draw_birth, with_birth}
-use Rattle.law_passing.specs.pg_store.Store.{is_held}
-use Rattle.law_passing.specs.pg_pieces.Done.{Done, idle}
-use Rattle.law_passing.specs.pg_pieces.Making.{own_next}
-use Rattle.law_passing.specs.pg_checks.Answer.{Answer, answer, answered}
-use Rattle.law_passing.specs.pg_calls.Forgetting.{bare_entry, begin_lost, begun_at, begun_with, dead_at, dirs_of, fill_lost, forget_lost, has_blank_place, has_cell_for, is_wanted, last_place, mark, marked_each, last_listing, placed_in_root, placed_lost, root_place, strike_out, struck_out, unfilled, unwished}
-use Rattle.law_passing.specs.pg_calls.Naming.{next_id, raised}
-use Rattle.law_passing.specs.pg_base.declared.id.Kind.{Kind}
-use Rattle.law_passing.specs.pg_run.Carried.{anew_takes, forgotten_takes, known_takes, patch_taken, patches_taken, strikes_out, struck_by, struck_takes}
-use Rattle.law_passing.specs.pg_run.Known.{Told}
-use Rattle.law_passing.specs.pg_run.Took.{Take, entry_takes, flags_of, places_of, take_of}
-use Rattle.law_passing.specs.pg_run.Took.Take.{Began, TookPlace}
-use Rattle.law_passing.specs.pg_run.Took.Taker.{InDir, Itself}
-use Rattle.law_passing.proofs.pg_run.Lists.{among_back}
-use Rattle.law_passing.proofs.pg_calls.LastPlace.{IsLastPlace, cell_there, last_is}
+use Rattle.pg_run.specs.pg_base.declared.id.FileId.{FileId}
+use Rattle.pg_run.specs.pg_base.declared.policy.Policy.TheVariants.{Last}
+use Rattle.pg_run.specs.pg_base.Id.{is_same_file}
+use Rattle.pg_run.specs.pg_base.Stamp.{is_before}
+use Rattle.pg_run.specs.pg_content.Content.{Among}
+use Rattle.pg_run.proofs.pg_content.Members.{among_filter}
+use Rattle.pg_run.specs.pg_register.declared.place.Place.{Place}
+use Rattle.pg_run.specs.pg_register.Flag.{IsByServer}
+use Rattle.pg_run.specs.pg_register.Place.{blank_place, first_stamp, root, root_place as place_of_root}
+use Rattle.pg_run.proofs.pg_register.ByServer.{IsByServer-nil}
+use Rattle.pg_run.specs.pg_intent.declared.intent.Intent.{Intent}
+use Rattle.pg_run.specs.pg_intent.declared.intent.Intent.TheVariants as intent
+use Rattle.pg_run.specs.pg_intent.declared.key.IntentKey.TheVariants as intent_key
+use Rattle.pg_run.specs.pg_intent.Intents.{ended}
+use Rattle.pg_run.proofs.pg_intent.Kept.{own-ended}
+use Rattle.pg_run.specs.pg_msg.declared.update.Update.TheVariants as update
+use Rattle.pg_run.specs.pg_msg.declared.work.Work.{Work}
+use Rattle.pg_run.specs.pg_msg.Work.{new_work, with_made}
+use Rattle.pg_run.specs.pg_call.declared.reply.Reply.TheVariants as reply
+use Rattle.pg_run.specs.pg_names.declared.attributes.Attributes.{Attributes}
+use Rattle.pg_run.specs.pg_names.Names.{NamesValue, blank_own, cell_at, is_dir, known}
+use Rattle.pg_run.specs.pg_house.Facts.{IsHeld}
+use Rattle.pg_run.proofs.pg_house.Greatest.{cell_held}
+use Rattle.pg_run.proofs.pg_house.Truths.{chosen_false}
+use Rattle.pg_run.proofs.theory_flood_pieces.Choices.{chosen}
+use Rattle.pg_run.proofs.theory_flood_pieces.Together.{own_of_held}
+use Rattle.pg_run.specs.pg_lookup.declared.paths.LookupError.{LookupError}
+use Rattle.pg_run.specs.pg_lookup.declared.paths.LookupError.TheVariants as stop
+use Rattle.pg_run.specs.pg_store.declared.store.Store.{Store}
+use Rattle.pg_run.specs.pg_store.Births.{draw_birth, with_birth}
+use Rattle.pg_run.specs.pg_store.Store.{is_held}
+use Rattle.pg_run.specs.pg_pieces.Done.{Done, idle}
+use Rattle.pg_run.specs.pg_pieces.Making.{own_next}
+use Rattle.pg_run.specs.pg_checks.Answer.{Answer, answer, answered}
+use Rattle.pg_run.specs.pg_calls.Forgetting.{bare_entry, begin_lost, begun_at, begun_with, dead_at, dirs_of, fill_lost, forget_lost, has_blank_place, has_cell_for, is_wanted, last_place, mark, marked_each, last_listing, placed_in_root, placed_lost, root_place, strike_out, struck_out, unfilled, unwished}
+use Rattle.pg_run.specs.pg_calls.Naming.{next_id, raised}
+use Rattle.pg_run.specs.pg_base.declared.id.Kind.{Kind}
+use Rattle.pg_run.specs.Carried.{anew_takes, forgotten_takes, known_takes, patch_taken, patches_taken, strikes_out, struck_by, struck_takes}
+use Rattle.pg_run.specs.Known.{Told}
+use Rattle.pg_run.specs.Took.{Take, entry_takes, flags_of, places_of, take_of}
+use Rattle.pg_run.specs.Took.Take.{Began, TookPlace}
+use Rattle.pg_run.specs.Took.Taker.{InDir, Itself}
+use Rattle.pg_run.proofs.Lists.{among_back}
+use Rattle.pg_run.proofs.pg_calls.LastPlace.{IsLastPlace, cell_there, last_is}
 use Rattle.law_names.specs.Goes.{Goes}
 use Rattle.law_names.specs.Merged.{IsNewId}
 use Rattle.law_names.proofs.Calls.{denied}

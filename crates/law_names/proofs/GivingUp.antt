@@ -1,27 +1,27 @@
 -- A server is given up: what the server knows of names stays as it was, but for who is removed.
 use Rattle.std.proofs.Common.{ℕ, ◌≡◌, List, [], ◌∷◌, ◌++◌, map, Option, None, Some, Result, Ok, Err, refl, sym, subst, ◌∙◌}
-use Rattle.law_passing.specs.pg_base.declared.id.FileId.{FileId}
-use Rattle.law_passing.specs.pg_base.declared.id.Kind.{Kind}
-use Rattle.law_passing.specs.pg_edges.declared.edge.Edge.{Edge}
-use Rattle.law_passing.specs.pg_msg.declared.update.Update.{Update}
-use Rattle.law_passing.specs.pg_msg.declared.work.Work.{Work}
-use Rattle.law_passing.specs.pg_msg.Work.{new_work}
-use Rattle.law_passing.specs.pg_call.declared.reply.Reply.TheVariants as reply
-use Rattle.law_passing.specs.pg_names.Names.{NamesValue, remove_server}
-use Rattle.law_passing.proofs.theory_flood_pieces.Choices.{chosen}
-use Rattle.law_passing.specs.pg_lookup.declared.paths.LookupError.{LookupError}
-use Rattle.law_passing.specs.pg_store.declared.store.Store.{Store}
-use Rattle.law_passing.specs.pg_store.Seen.{removed_of}
-use Rattle.law_passing.specs.pg_store.Views.{enter}
-use Rattle.law_passing.proofs.pg_store.Entered.{enter_names}
-use Rattle.law_passing.specs.pg_intentions.Inviting.{invite_along, invite_each, invite_of, invites, loose_edge}
-use Rattle.law_passing.specs.pg_checks.Answer.{Answer, answer, answered}
-use Rattle.law_passing.specs.pg_calls.GivingUp.{doubt_all, enter_view}
-use Rattle.law_passing.specs.pg_calls.Naming.{next_id}
+use Rattle.pg_run.specs.pg_base.declared.id.FileId.{FileId}
+use Rattle.pg_run.specs.pg_base.declared.id.Kind.{Kind}
+use Rattle.pg_run.specs.pg_edges.declared.edge.Edge.{Edge}
+use Rattle.pg_run.specs.pg_msg.declared.update.Update.{Update}
+use Rattle.pg_run.specs.pg_msg.declared.work.Work.{Work}
+use Rattle.pg_run.specs.pg_msg.Work.{new_work}
+use Rattle.pg_run.specs.pg_call.declared.reply.Reply.TheVariants as reply
+use Rattle.pg_run.specs.pg_names.Names.{NamesValue, remove_server}
+use Rattle.pg_run.proofs.theory_flood_pieces.Choices.{chosen}
+use Rattle.pg_run.specs.pg_lookup.declared.paths.LookupError.{LookupError}
+use Rattle.pg_run.specs.pg_store.declared.store.Store.{Store}
+use Rattle.pg_run.specs.pg_store.Seen.{removed_of}
+use Rattle.pg_run.specs.pg_store.Views.{enter}
+use Rattle.pg_run.proofs.pg_store.Entered.{enter_names}
+use Rattle.pg_run.specs.pg_intentions.Inviting.{invite_along, invite_each, invite_of, invites, loose_edge}
+use Rattle.pg_run.specs.pg_checks.Answer.{Answer, answer, answered}
+use Rattle.pg_run.specs.pg_calls.GivingUp.{doubt_all, enter_view}
+use Rattle.pg_run.specs.pg_calls.Naming.{next_id}
 use Rattle.std.specs.Map.{keys_of}
-use Rattle.law_passing.specs.pg_run.Carried.{begun_by}
-use Rattle.law_passing.specs.pg_run.Known.{Told}
-use Rattle.law_passing.specs.pg_run.Took.{Take, take_of}
+use Rattle.pg_run.specs.Carried.{begun_by}
+use Rattle.pg_run.specs.Known.{Told}
+use Rattle.pg_run.specs.Took.{Take, take_of}
 use Rattle.law_names.specs.Goes.{Goes}
 use Rattle.law_names.specs.Merged.{IsNewId}
 use Rattle.law_names.proofs.Calls.{denied}

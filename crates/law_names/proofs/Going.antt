@@ -1,26 +1,26 @@
 -- What each piece of an event leaves of a server in the midst of it.
 use Rattle.std.proofs.Common.{ℕ, ◌≡◌, ◌≤◌, true, List, ◌∷◌, ◌++◌, Some, refl, sym, subst, ◌∙◌}
-use Rattle.law_passing.specs.pg_base.declared.id.FileId.{FileId}
-use Rattle.law_passing.specs.pg_base.declared.stamp.Stamp.{Stamp}
-use Rattle.law_passing.specs.pg_base.Version.{VersionValue}
-use Rattle.law_passing.specs.pg_content.Content.{Among}
-use Rattle.law_passing.specs.pg_register.declared.flag.Flag.{Flag}
-use Rattle.law_passing.specs.pg_register.declared.place.Place.{Place}
-use Rattle.law_passing.specs.pg_register.Flag.{IsByServer}
-use Rattle.law_passing.specs.pg_entries.declared.entry.Entry.{Entry}
-use Rattle.law_passing.specs.pg_names.declared.attributes.Attributes.{Attributes}
-use Rattle.law_passing.specs.pg_names.Names.{NamesValue, cell_at, is_dir, own_at, raise, with_flag, with_joined, with_place}
-use Rattle.law_passing.proofs.pg_names.Lookups.{update_frame}
-use Rattle.law_passing.specs.pg_house.Facts.{IsHeld}
-use Rattle.law_passing.specs.theory_flood_pieces.Whole.{AreOrderly}
-use Rattle.law_passing.proofs.theory_flood_pieces.Choices.{chosen}
-use Rattle.law_passing.proofs.theory_flood_pieces.Orderly.{orderly_entry, orderly_flag, orderly_place, orderly_raised}
-use Rattle.law_passing.specs.pg_store.declared.store.Store.{Store}
-use Rattle.law_passing.specs.pg_store.Seen.{removed_of}
-use Rattle.law_passing.specs.pg_store.Store.{is_new_version, is_newer_entry, is_newer_flag, is_newer_place, put_entry, put_flag, put_place, put_version, take_entry, take_flag, take_place, take_version}
-use Rattle.law_passing.specs.pg_run.Took.{Take, entry_takes}
-use Rattle.law_passing.specs.pg_run.Took.Take.{Began, TookFlag, TookPlace, TookVersion}
-use Rattle.law_passing.specs.pg_run.Took.Taker.{Itself}
+use Rattle.pg_run.specs.pg_base.declared.id.FileId.{FileId}
+use Rattle.pg_run.specs.pg_base.declared.stamp.Stamp.{Stamp}
+use Rattle.pg_run.specs.pg_base.Version.{VersionValue}
+use Rattle.pg_run.specs.pg_content.Content.{Among}
+use Rattle.pg_run.specs.pg_register.declared.flag.Flag.{Flag}
+use Rattle.pg_run.specs.pg_register.declared.place.Place.{Place}
+use Rattle.pg_run.specs.pg_register.Flag.{IsByServer}
+use Rattle.pg_run.specs.pg_entries.declared.entry.Entry.{Entry}
+use Rattle.pg_run.specs.pg_names.declared.attributes.Attributes.{Attributes}
+use Rattle.pg_run.specs.pg_names.Names.{NamesValue, cell_at, is_dir, own_at, raise, with_flag, with_joined, with_place}
+use Rattle.pg_run.proofs.pg_names.Lookups.{update_frame}
+use Rattle.pg_run.specs.pg_house.Facts.{IsHeld}
+use Rattle.pg_run.specs.theory_flood_pieces.Whole.{AreOrderly}
+use Rattle.pg_run.proofs.theory_flood_pieces.Choices.{chosen}
+use Rattle.pg_run.proofs.theory_flood_pieces.Orderly.{orderly_entry, orderly_flag, orderly_place, orderly_raised}
+use Rattle.pg_run.specs.pg_store.declared.store.Store.{Store}
+use Rattle.pg_run.specs.pg_store.Seen.{removed_of}
+use Rattle.pg_run.specs.pg_store.Store.{is_new_version, is_newer_entry, is_newer_flag, is_newer_place, put_entry, put_flag, put_place, put_version, take_entry, take_flag, take_place, take_version}
+use Rattle.pg_run.specs.Took.{Take, entry_takes}
+use Rattle.pg_run.specs.Took.Take.{Began, TookFlag, TookPlace, TookVersion}
+use Rattle.pg_run.specs.Took.Taker.{Itself}
 use Rattle.law_names.specs.Goes.{Goes}
 use Rattle.law_passing.specs.Tells.{Tells}
 use Rattle.law_names.proofs.Comes.{taken_flag, taken_place}

@@ -2,22 +2,22 @@
 -- took.
 use Rattle.std.proofs.Common.{ℕ, ◌≡◌, Bool, true, false, not, List, Option, None, Some, refl, sym, ap, subst, ◌∙◌, inl, inr}
 use Rattle.std.proofs.lemmas.Bool.{false≢true, not-true}
-use Rattle.law_passing.specs.pg_base.declared.id.FileId.{FileId}
-use Rattle.law_passing.specs.pg_base.Id.{is_same_file}
-use Rattle.law_passing.proofs.pg_base.Orders.{is_same_file-refl, is_same_file-true}
-use Rattle.law_passing.specs.pg_content.Content.{Among}
-use Rattle.law_passing.proofs.pg_content.Members.{among_filter, filter_among}
-use Rattle.law_passing.specs.pg_register.declared.place.Place.{Place}
-use Rattle.law_passing.specs.pg_register.Place.{blank_place, root, root_place}
-use Rattle.law_passing.specs.pg_entries.declared.entry.Entry.{Entry}
-use Rattle.law_passing.specs.pg_names.declared.attributes.Attributes.{Attributes}
-use Rattle.law_passing.specs.pg_names.Names.{NamesValue, cell_at, let_go, or_blank, own_at, own_of, own_or_blank}
-use Rattle.law_passing.proofs.pg_names.Gone.{gone_cell, gone_cell_other, gone_own, gone_own_other, gone_same}
-use Rattle.law_passing.proofs.pg_house.Truths.{chosen_false}
-use Rattle.law_passing.specs.pg_run.Took.{Take, is_of_replica, without, without_gone}
-use Rattle.law_passing.specs.pg_run.Took.Take.{Began, TookFlag, TookPlace}
-use Rattle.law_passing.specs.pg_run.Took.Taker.{InDir, Itself}
-use Rattle.law_passing.specs.pg_run.Passed.{has_cell}
+use Rattle.pg_run.specs.pg_base.declared.id.FileId.{FileId}
+use Rattle.pg_run.specs.pg_base.Id.{is_same_file}
+use Rattle.pg_run.proofs.pg_base.Orders.{is_same_file-refl, is_same_file-true}
+use Rattle.pg_run.specs.pg_content.Content.{Among}
+use Rattle.pg_run.proofs.pg_content.Members.{among_filter, filter_among}
+use Rattle.pg_run.specs.pg_register.declared.place.Place.{Place}
+use Rattle.pg_run.specs.pg_register.Place.{blank_place, root, root_place}
+use Rattle.pg_run.specs.pg_entries.declared.entry.Entry.{Entry}
+use Rattle.pg_run.specs.pg_names.declared.attributes.Attributes.{Attributes}
+use Rattle.pg_run.specs.pg_names.Names.{NamesValue, cell_at, let_go, or_blank, own_at, own_of, own_or_blank}
+use Rattle.pg_run.proofs.pg_names.Gone.{gone_cell, gone_cell_other, gone_own, gone_own_other, gone_same}
+use Rattle.pg_run.proofs.pg_house.Truths.{chosen_false}
+use Rattle.pg_run.specs.Took.{Take, is_of_replica, without, without_gone}
+use Rattle.pg_run.specs.Took.Take.{Began, TookFlag, TookPlace}
+use Rattle.pg_run.specs.Took.Taker.{InDir, Itself}
+use Rattle.pg_run.specs.Passed.{has_cell}
 use Rattle.law_passing.specs.Newest.{AreNewest, IsLatest}
 use Rattle.law_passing.specs.Tells.{HasFlag, HasPlace, IsCellOf, Tells}
 use Rattle.law_passing.proofs.Latest.{latest_none, latest_same}

@@ -2,22 +2,22 @@
 use Rattle.std.proofs.Common.{ℕ, ◌≡◌, Bool, true, false, not, Option, None, Some, refl, sym, subst}
 use Rattle.std.specs.Option.{is_some}
 use Rattle.std.proofs.lemmas.Bool.{false≢true, and_parts}
-use Rattle.law_passing.specs.pg_base.declared.id.FileId.{FileId}
-use Rattle.law_passing.specs.pg_base.Id.{is_same_file}
-use Rattle.law_passing.proofs.pg_base.Orders.{is_same_file-true}
-use Rattle.law_passing.specs.pg_msg.declared.message.Ends.{Ends}
-use Rattle.law_passing.specs.pg_names.Names.{InodeValue, is_full_of, known}
-use Rattle.law_passing.specs.pg_register.Place.{root}
-use Rattle.law_passing.specs.pg_house.Facts.{IsHeld}
-use Rattle.law_passing.proofs.theory_flood_pieces.Together.{held_of_replica, own_of_held}
-use Rattle.law_passing.specs.pg_replica.declared.replica.Replica.{Replica}
-use Rattle.law_passing.specs.pg_replica.Replicas.{is_of_birth}
-use Rattle.law_passing.specs.pg_store.declared.store.Store.{Store}
-use Rattle.law_passing.specs.pg_store.Births.{has_birth}
-use Rattle.law_passing.specs.pg_store.Links.{knows_later}
-use Rattle.law_passing.specs.pg_store.Store.{is_full, is_held, replica_at}
-use Rattle.law_passing.specs.pg_store.Together.{AreTogether}
-use Rattle.law_passing.specs.pg_pieces.Accepting.{is_current}
+use Rattle.pg_run.specs.pg_base.declared.id.FileId.{FileId}
+use Rattle.pg_run.specs.pg_base.Id.{is_same_file}
+use Rattle.pg_run.proofs.pg_base.Orders.{is_same_file-true}
+use Rattle.pg_run.specs.pg_msg.declared.message.Ends.{Ends}
+use Rattle.pg_run.specs.pg_names.Names.{InodeValue, is_full_of, known}
+use Rattle.pg_run.specs.pg_register.Place.{root}
+use Rattle.pg_run.specs.pg_house.Facts.{IsHeld}
+use Rattle.pg_run.proofs.theory_flood_pieces.Together.{held_of_replica, own_of_held}
+use Rattle.pg_run.specs.pg_replica.declared.replica.Replica.{Replica}
+use Rattle.pg_run.specs.pg_replica.Replicas.{is_of_birth}
+use Rattle.pg_run.specs.pg_store.declared.store.Store.{Store}
+use Rattle.pg_run.specs.pg_store.Births.{has_birth}
+use Rattle.pg_run.specs.pg_store.Links.{knows_later}
+use Rattle.pg_run.specs.pg_store.Store.{is_full, is_held, replica_at}
+use Rattle.pg_run.specs.pg_store.Together.{AreTogether}
+use Rattle.pg_run.specs.pg_pieces.Accepting.{is_current}
 
 birth_held : (a : Store) → AreTogether a → (f : FileId) (birth : ℕ) (o : Option Replica) → replica_at a f ≡ o → is_of_birth o birth ≡ true → IsHeld a.names f
 birth_held a together f birth None e h = absurd (false≢true h)

@@ -1,23 +1,23 @@
 -- Leave is given: where the replica goes, what is known then is what is left of what was taken.
 use Rattle.std.proofs.Common.{ℕ, ◌≡◌, ◌&&◌, ◌++◌, Bool, true, false, cond, not, is_some, List, map, None, Some, refl, sym, subst}
-use Rattle.law_passing.specs.pg_base.declared.stamp.Stamp.{Stamp}
-use Rattle.law_passing.specs.pg_base.Id.{is_same_file}
-use Rattle.law_passing.specs.pg_msg.declared.message.Ends.{Ends}
-use Rattle.law_passing.specs.pg_msg.declared.update.Update.{Update}
-use Rattle.law_passing.specs.pg_msg.declared.work.Work.{Work}
-use Rattle.law_passing.specs.pg_msg.Work.{new_work}
-use Rattle.law_passing.specs.pg_names.Names.{NamesValue}
-use Rattle.law_passing.specs.pg_register.Place.{root}
-use Rattle.law_passing.specs.pg_store.declared.store.Store.{Store}
-use Rattle.law_passing.specs.pg_store.Beginning.{let_go}
-use Rattle.law_passing.specs.pg_store.Births.{birth_of}
-use Rattle.law_passing.specs.pg_store.Store.{replica_of}
-use Rattle.law_passing.specs.pg_pieces.Done.{Done, idle}
-use Rattle.law_passing.specs.pg_pieces.Parting.{stays_for}
-use Rattle.law_passing.specs.pg_graph.Leaving.{goes, goes_now, leave_ok, may_leave, without_leave}
-use Rattle.law_passing.proofs.pg_graph.LeaveOk.{answered_is}
-use Rattle.law_passing.specs.pg_run.Intending.{LeavesStand}
-use Rattle.law_passing.specs.pg_run.Took.{Take, take_of, without, without_gone}
+use Rattle.pg_run.specs.pg_base.declared.stamp.Stamp.{Stamp}
+use Rattle.pg_run.specs.pg_base.Id.{is_same_file}
+use Rattle.pg_run.specs.pg_msg.declared.message.Ends.{Ends}
+use Rattle.pg_run.specs.pg_msg.declared.update.Update.{Update}
+use Rattle.pg_run.specs.pg_msg.declared.work.Work.{Work}
+use Rattle.pg_run.specs.pg_msg.Work.{new_work}
+use Rattle.pg_run.specs.pg_names.Names.{NamesValue}
+use Rattle.pg_run.specs.pg_register.Place.{root}
+use Rattle.pg_run.specs.pg_store.declared.store.Store.{Store}
+use Rattle.pg_run.specs.pg_store.Beginning.{let_go}
+use Rattle.pg_run.specs.pg_store.Births.{birth_of}
+use Rattle.pg_run.specs.pg_store.Store.{replica_of}
+use Rattle.pg_run.specs.pg_pieces.Done.{Done, idle}
+use Rattle.pg_run.specs.pg_pieces.Parting.{stays_for}
+use Rattle.pg_run.specs.pg_graph.Leaving.{goes, goes_now, leave_ok, may_leave, without_leave}
+use Rattle.pg_run.proofs.pg_graph.LeaveOk.{answered_is}
+use Rattle.pg_run.specs.Intending.{LeavesStand}
+use Rattle.pg_run.specs.Took.{Take, take_of, without, without_gone}
 use Rattle.law_names.specs.Goes.{Goes}
 use Rattle.law_names.proofs.Going.{goes_on}
 use Rattle.law_names.proofs.Gone.{goes_gone}

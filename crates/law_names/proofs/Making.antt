@@ -1,26 +1,26 @@
 -- What a server makes of what it holds is what its replicas take.
 use Rattle.std.proofs.Common.{ℕ, ◌≡◌, true, List, [], ◌∷◌, ◌++◌, map, sym, subst, inl, inr, ◌⊎◌}
 use Rattle.std.specs.Prelude.{nat_lt}
-use Rattle.law_passing.specs.pg_base.declared.id.FileId.{FileId}
-use Rattle.law_passing.specs.pg_base.declared.stamp.Stamp.{Stamp}
-use Rattle.law_passing.specs.pg_content.Content.{Among}
-use Rattle.law_passing.specs.pg_register.declared.flag.Flag.{Flag}
-use Rattle.law_passing.specs.pg_register.declared.place.Place.{Place}
-use Rattle.law_passing.specs.pg_patch.Ranges.{RangesValue}
-use Rattle.law_passing.specs.pg_msg.declared.update.Update.{Update}
-use Rattle.law_passing.specs.pg_msg.declared.update.Update.TheVariants as update
-use Rattle.law_passing.specs.pg_msg.Work.{with_made}
-use Rattle.law_passing.specs.pg_names.Names.{NamesValue, fill as names_fill, filled}
-use Rattle.law_passing.proofs.pg_names.Holding.{fill_cells, fill_own}
-use Rattle.law_passing.proofs.pg_names.Lookups.{update_frame}
-use Rattle.law_passing.specs.pg_house.Facts.{IsHeld}
-use Rattle.law_passing.proofs.theory_flood_pieces.Choices.{chosen}
-use Rattle.law_passing.specs.pg_store.Store.{take_flag, take_place, with_names}
-use Rattle.law_passing.specs.pg_pieces.Done.{Done, idle}
-use Rattle.law_passing.specs.pg_pieces.Making.{make_flag, own_next, raise_flag}
-use Rattle.law_passing.specs.pg_repair.Filling.{few_golds, fill, live_golds, raise_if_few}
-use Rattle.law_passing.specs.pg_calls.Making.{make_place, make_version, version_of}
-use Rattle.law_passing.specs.pg_run.Took.{Take, take_of}
+use Rattle.pg_run.specs.pg_base.declared.id.FileId.{FileId}
+use Rattle.pg_run.specs.pg_base.declared.stamp.Stamp.{Stamp}
+use Rattle.pg_run.specs.pg_content.Content.{Among}
+use Rattle.pg_run.specs.pg_register.declared.flag.Flag.{Flag}
+use Rattle.pg_run.specs.pg_register.declared.place.Place.{Place}
+use Rattle.pg_run.specs.pg_patch.Ranges.{RangesValue}
+use Rattle.pg_run.specs.pg_msg.declared.update.Update.{Update}
+use Rattle.pg_run.specs.pg_msg.declared.update.Update.TheVariants as update
+use Rattle.pg_run.specs.pg_msg.Work.{with_made}
+use Rattle.pg_run.specs.pg_names.Names.{NamesValue, fill as names_fill, filled}
+use Rattle.pg_run.proofs.pg_names.Holding.{fill_cells, fill_own}
+use Rattle.pg_run.proofs.pg_names.Lookups.{update_frame}
+use Rattle.pg_run.specs.pg_house.Facts.{IsHeld}
+use Rattle.pg_run.proofs.theory_flood_pieces.Choices.{chosen}
+use Rattle.pg_run.specs.pg_store.Store.{take_flag, take_place, with_names}
+use Rattle.pg_run.specs.pg_pieces.Done.{Done, idle}
+use Rattle.pg_run.specs.pg_pieces.Making.{make_flag, own_next, raise_flag}
+use Rattle.pg_run.specs.pg_repair.Filling.{few_golds, fill, live_golds, raise_if_few}
+use Rattle.pg_run.specs.pg_calls.Making.{make_place, make_version, version_of}
+use Rattle.pg_run.specs.Took.{Take, take_of}
 use Rattle.law_names.specs.Goes.{Goes}
 use Rattle.law_names.proofs.Going.{goes_flag, goes_noted, goes_place, goes_raised, goes_reordered, goes_same, still_held}
 use Rattle.law_names.proofs.Notes.{flag_noted_made, place_noted_made}

@@ -2,61 +2,61 @@
 use Rattle.std.proofs.Common.{ℕ, ◌≡◌, ◌&&◌, not, Bool, true, false, cond, List, [], ◌∷◌, ◌++◌, map, Some, refl, sym, ap, subst, ◌∙◌, inr, arith}
 use Rattle.std.proofs.lemmas.Bool.{or_parts, and_parts}
 use Rattle.std.proofs.lemmas.Bool.Decides.{nat_tests}
-use Rattle.law_passing.specs.pg_base.declared.id.FileId.{FileId}
-use Rattle.law_passing.specs.pg_base.declared.stamp.Stamp.{Stamp}
-use Rattle.law_passing.specs.pg_base.Id.{is_same_file}
-use Rattle.law_passing.specs.pg_base.Stamp.{is_before}
-use Rattle.law_passing.specs.pg_content.Content.{Among}
-use Rattle.law_passing.specs.pg_register.declared.flag.Flag.{Flag}
-use Rattle.law_passing.specs.pg_register.declared.place.Place.{Place}
-use Rattle.law_passing.specs.pg_register.Flag.{IsByServer}
-use Rattle.law_passing.specs.pg_register.Place.{blank_place, first_stamp, root, root_place}
-use Rattle.law_passing.specs.pg_entries.declared.cell.Cell.{Cell}
-use Rattle.law_passing.specs.pg_entries.declared.cell.Cell.TheVariants as cell
-use Rattle.law_passing.specs.pg_entries.declared.entry.Entry.{Entry}
-use Rattle.law_passing.specs.pg_intent.declared.intent.Intent.TheVariants as intent
-use Rattle.law_passing.specs.pg_msg.declared.message.Ask.TheVariants as ask
-use Rattle.law_passing.specs.pg_msg.declared.message.Ends.{Ends}
-use Rattle.law_passing.specs.pg_msg.declared.message.Granted.{Granted}
-use Rattle.law_passing.specs.pg_msg.declared.message.Message.{Message}
-use Rattle.law_passing.specs.pg_msg.declared.message.Message.TheVariants as message
-use Rattle.law_passing.specs.pg_msg.declared.update.Update.{Update}
-use Rattle.law_passing.specs.pg_msg.declared.work.Work.{Work}
-use Rattle.law_passing.specs.pg_msg.Work.{new_work}
-use Rattle.law_passing.specs.pg_names.Names.{NamesValue, cell_at, is_dir, is_place_new, known}
-use Rattle.law_passing.specs.pg_house.Facts.{IsHeld}
-use Rattle.law_passing.specs.pg_house.Passing.{is_update}
-use Rattle.law_passing.specs.pg_house.Returning.{is_root}
-use Rattle.law_passing.proofs.pg_house.Truths.{chosen_false}
-use Rattle.law_passing.proofs.theory_flood_pieces.Together.{own_of_held}
-use Rattle.law_passing.specs.pg_store.declared.store.Store.{Store}
-use Rattle.law_passing.specs.pg_store.Births.{is_pending}
-use Rattle.law_passing.specs.pg_store.Servers.{next_target}
-use Rattle.law_passing.specs.pg_store.Store.{is_full, is_held, is_newer_place, put_place, take_place}
-use Rattle.law_passing.specs.pg_store.Together.{AreTogether}
-use Rattle.law_passing.proofs.pg_store.Given.{pending_may}
-use Rattle.law_passing.specs.pg_pieces.declared.accepting.EdgeUse.TheVariants as manner
-use Rattle.law_passing.specs.pg_pieces.Accepting.{accept, is_accepted, is_current}
-use Rattle.law_passing.specs.pg_cells.Cells.{cell as cell_done, fits, taken, taken_along}
-use Rattle.law_passing.specs.pg_pieces.Done.{Done, idle}
-use Rattle.law_passing.specs.pg_pieces.Posting.{reply}
-use Rattle.law_passing.specs.pg_pieces.Taking.{take_entry_noted, take_flag_noted, take_flags_noted, take_place_noted}
-use Rattle.law_passing.specs.pg_repair.Confirming.{confirmed, place_told, take_told_flags, take_told_place}
-use Rattle.law_passing.specs.pg_pieces.Golds.{is_gold}
-use Rattle.law_passing.specs.pg_repair.Filling.{fill, invite, is_bronze, raise_if_few}
-use Rattle.law_passing.specs.pg_repair.Granting.{begin_granted, begun_by, granted_own}
-use Rattle.law_passing.specs.pg_repair.NoneHere.{asking_key}
-use Rattle.law_passing.specs.pg_repair.Telling.{told}
-use Rattle.law_passing.proofs.pg_calls.Walked.{full_own}
-use Rattle.law_passing.specs.pg_server.Local.{receive}
-use Rattle.law_passing.specs.pg_run.Asking.{Asked}
-use Rattle.law_passing.specs.pg_run.Carried.{carried, gone_by, granted_takes}
-use Rattle.law_passing.specs.pg_run.Intending.{IntendsInOrder}
-use Rattle.law_passing.specs.pg_run.Known.{AreTold, IsCellTold, IsMessageTold, Told}
-use Rattle.law_passing.specs.pg_run.Took.{Take, entry_takes, first_place, flags_of, places_of, take_of, takes_in, without_gone}
-use Rattle.law_passing.specs.pg_run.Took.Take.{TookFlag, TookPlace}
-use Rattle.law_passing.specs.pg_run.Took.Taker.{Itself}
-use Rattle.law_passing.proofs.pg_run.Lists.{among_back}
+use Rattle.pg_run.specs.pg_base.declared.id.FileId.{FileId}
+use Rattle.pg_run.specs.pg_base.declared.stamp.Stamp.{Stamp}
+use Rattle.pg_run.specs.pg_base.Id.{is_same_file}
+use Rattle.pg_run.specs.pg_base.Stamp.{is_before}
+use Rattle.pg_run.specs.pg_content.Content.{Among}
+use Rattle.pg_run.specs.pg_register.declared.flag.Flag.{Flag}
+use Rattle.pg_run.specs.pg_register.declared.place.Place.{Place}
+use Rattle.pg_run.specs.pg_register.Flag.{IsByServer}
+use Rattle.pg_run.specs.pg_register.Place.{blank_place, first_stamp, root, root_place}
+use Rattle.pg_run.specs.pg_entries.declared.cell.Cell.{Cell}
+use Rattle.pg_run.specs.pg_entries.declared.cell.Cell.TheVariants as cell
+use Rattle.pg_run.specs.pg_entries.declared.entry.Entry.{Entry}
+use Rattle.pg_run.specs.pg_intent.declared.intent.Intent.TheVariants as intent
+use Rattle.pg_run.specs.pg_msg.declared.message.Ask.TheVariants as ask
+use Rattle.pg_run.specs.pg_msg.declared.message.Ends.{Ends}
+use Rattle.pg_run.specs.pg_msg.declared.message.Granted.{Granted}
+use Rattle.pg_run.specs.pg_msg.declared.message.Message.{Message}
+use Rattle.pg_run.specs.pg_msg.declared.message.Message.TheVariants as message
+use Rattle.pg_run.specs.pg_msg.declared.update.Update.{Update}
+use Rattle.pg_run.specs.pg_msg.declared.work.Work.{Work}
+use Rattle.pg_run.specs.pg_msg.Work.{new_work}
+use Rattle.pg_run.specs.pg_names.Names.{NamesValue, cell_at, is_dir, is_place_new, known}
+use Rattle.pg_run.specs.pg_house.Facts.{IsHeld}
+use Rattle.pg_run.specs.pg_house.Passing.{is_update}
+use Rattle.pg_run.specs.pg_house.Returning.{is_root}
+use Rattle.pg_run.proofs.pg_house.Truths.{chosen_false}
+use Rattle.pg_run.proofs.theory_flood_pieces.Together.{own_of_held}
+use Rattle.pg_run.specs.pg_store.declared.store.Store.{Store}
+use Rattle.pg_run.specs.pg_store.Births.{is_pending}
+use Rattle.pg_run.specs.pg_store.Servers.{next_target}
+use Rattle.pg_run.specs.pg_store.Store.{is_full, is_held, is_newer_place, put_place, take_place}
+use Rattle.pg_run.specs.pg_store.Together.{AreTogether}
+use Rattle.pg_run.proofs.pg_store.Given.{pending_may}
+use Rattle.pg_run.specs.pg_pieces.declared.accepting.EdgeUse.TheVariants as manner
+use Rattle.pg_run.specs.pg_pieces.Accepting.{accept, is_accepted, is_current}
+use Rattle.pg_run.specs.pg_cells.Cells.{cell as cell_done, fits, taken, taken_along}
+use Rattle.pg_run.specs.pg_pieces.Done.{Done, idle}
+use Rattle.pg_run.specs.pg_pieces.Posting.{reply}
+use Rattle.pg_run.specs.pg_pieces.Taking.{take_entry_noted, take_flag_noted, take_flags_noted, take_place_noted}
+use Rattle.pg_run.specs.pg_repair.Confirming.{confirmed, place_told, take_told_flags, take_told_place}
+use Rattle.pg_run.specs.pg_pieces.Golds.{is_gold}
+use Rattle.pg_run.specs.pg_repair.Filling.{fill, invite, is_bronze, raise_if_few}
+use Rattle.pg_run.specs.pg_repair.Granting.{begin_granted, begun_by, granted_own}
+use Rattle.pg_run.specs.pg_repair.NoneHere.{asking_key}
+use Rattle.pg_run.specs.pg_repair.Telling.{told}
+use Rattle.pg_run.proofs.pg_calls.Walked.{full_own}
+use Rattle.pg_run.specs.pg_server.Local.{receive}
+use Rattle.pg_run.specs.Asking.{Asked}
+use Rattle.pg_run.specs.Carried.{carried, gone_by, granted_takes}
+use Rattle.pg_run.specs.Intending.{IntendsInOrder}
+use Rattle.pg_run.specs.Known.{AreTold, IsCellTold, IsMessageTold, Told}
+use Rattle.pg_run.specs.Took.{Take, entry_takes, first_place, flags_of, places_of, take_of, takes_in, without_gone}
+use Rattle.pg_run.specs.Took.Take.{TookFlag, TookPlace}
+use Rattle.pg_run.specs.Took.Taker.{Itself}
+use Rattle.pg_run.proofs.Lists.{among_back}
 use Rattle.law_names.specs.Goes.{Goes}
 use Rattle.law_names.proofs.Bodies.{delta_stays, harbinger_stays, later_stays, piece_stays, want_stays, with_version}
 use Rattle.law_names.proofs.Going.{goes_entry, goes_flag, goes_on, goes_place, goes_reordered, goes_version, still_held}

@@ -2,56 +2,56 @@
 -- as they were.
 use Rattle.std.proofs.Common.{ℕ, ◌≡◌, ◌==◌, ◌-◌, ◌/◌, ◌%◌, ◌||◌, Bool, true, false, cond, not, List, [], ◌∷◌, length, Option, None, Some, refl, ◌∙◌}
 use Rattle.std.specs.List.{slice_get}
-use Rattle.law_passing.specs.pg_base.declared.id.FileId.{FileId}
-use Rattle.law_passing.specs.pg_base.declared.stamp.Stamp.{Stamp}
-use Rattle.law_passing.specs.pg_edges.declared.edge.Edge.{Edge}
-use Rattle.law_passing.specs.pg_edges.declared.key.Key.TheVariants as key
-use Rattle.law_passing.specs.pg_register.declared.flag.Flag.{Flag}
-use Rattle.law_passing.specs.pg_register.declared.place.Place.{Place}
-use Rattle.law_passing.specs.pg_entries.declared.cell.Cell.{Cell}
-use Rattle.law_passing.specs.pg_entries.declared.cell.Cell.TheVariants as cell
-use Rattle.law_passing.specs.pg_entries.declared.entry.Entry.{Entry}
-use Rattle.law_passing.specs.pg_intent.declared.intent.Intent.{Intent}
-use Rattle.law_passing.specs.pg_intent.declared.key.IntentKey.{IntentKey}
-use Rattle.law_passing.specs.pg_intent.declared.key.IntentKey.TheVariants as intent_key
-use Rattle.law_passing.specs.pg_intent.Intent.{key_of}
-use Rattle.law_passing.specs.pg_intent.Intents.{aimed, ended, intent_at, stands}
-use Rattle.law_passing.specs.pg_pieces.declared.accepting.EdgeUse.{EdgeUse}
-use Rattle.law_passing.specs.pg_pieces.declared.accepting.EdgeUse.TheVariants as manner
-use Rattle.law_passing.specs.pg_msg.declared.message.Ask.TheVariants as ask
-use Rattle.law_passing.specs.pg_msg.declared.message.Ends.{Ends}
-use Rattle.law_passing.specs.pg_msg.declared.message.Message.TheVariants as message
-use Rattle.law_passing.specs.pg_msg.declared.work.Work.{Work}
-use Rattle.law_passing.specs.pg_msg.Work.{with_begun}
-use Rattle.law_passing.specs.pg_names.Names.{own_or_blank}
-use Rattle.law_passing.specs.pg_house.Work.{note_left}
-use Rattle.law_passing.proofs.pg_house.Made.{left_made}
-use Rattle.law_passing.proofs.theory_flood_pieces.Choices.{chosen}
-use Rattle.law_passing.specs.pg_replica.declared.replica.Replica.{Replica}
-use Rattle.law_passing.specs.pg_store.declared.store.Store.{Store}
-use Rattle.law_passing.specs.pg_store.Beginning.{with_intents}
-use Rattle.law_passing.specs.pg_store.Births.{birth_of, fill_at, has_birth, is_pending, wish_at, with_wishes}
-use Rattle.law_passing.specs.pg_store.Links.{is_clean, is_linked, is_new_link, knows_later, link, put_link, unlink}
-use Rattle.law_passing.specs.pg_store.Seen.{server_of}
-use Rattle.law_passing.specs.pg_store.Servers.{next_target}
-use Rattle.law_passing.specs.pg_store.Store.{entry_news, is_full, is_held, is_new_version, is_newer_flag, is_newer_place, replica_at}
-use Rattle.law_passing.specs.pg_store.Wishes.{aim_wish}
-use Rattle.law_passing.specs.pg_pieces.Accepting.{accept, is_accepted, is_answer, link_peer, met, with_gone, with_link}
-use Rattle.law_passing.specs.pg_cells.Cells.{taken}
-use Rattle.law_passing.specs.pg_pieces.Done.{Done, idle}
-use Rattle.law_passing.specs.pg_pieces.Intending.{begin_intent, with_begun_if}
-use Rattle.law_passing.specs.pg_pieces.Posting.{reply}
-use Rattle.law_passing.specs.pg_pieces.Taking.{is_any_news, take_entry_noted, take_flag_noted, take_flags_noted, take_place_noted, with_doubt, with_left_if}
-use Rattle.law_passing.proofs.pg_pieces.News.{news_made}
-use Rattle.law_passing.specs.pg_repair.Confirming.{end_confirmed, is_confirmed}
-use Rattle.law_passing.specs.pg_repair.Fetching.{answered_fetch, ends_to, fetch, give, given}
-use Rattle.law_passing.specs.pg_repair.Granting.{aim_fill, fill_asks, turn_fill, turn_wish, wish_asks}
-use Rattle.law_passing.specs.pg_repair.NoneHere.{does_ask, turn}
-use Rattle.law_passing.specs.pg_graph.Leaving.{begin_byes, bye_to, gives_leave, leave, leave_given}
-use Rattle.law_passing.specs.pg_graph.Seeking.{answered_seek, seek}
-use Rattle.law_passing.proofs.pg_graph.LeaveOk.{byes_by}
-use Rattle.law_passing.specs.pg_graph.Walks.{edges_of, goes_on, meet_origin, most_hops, onward, walk, walk_along, walk_from, walk_of, walk_of_tick, walk_on, walked, with_few_edges}
-use Rattle.law_passing.specs.pg_repair.Telling.{end_told, is_told}
+use Rattle.pg_run.specs.pg_base.declared.id.FileId.{FileId}
+use Rattle.pg_run.specs.pg_base.declared.stamp.Stamp.{Stamp}
+use Rattle.pg_run.specs.pg_edges.declared.edge.Edge.{Edge}
+use Rattle.pg_run.specs.pg_edges.declared.key.Key.TheVariants as key
+use Rattle.pg_run.specs.pg_register.declared.flag.Flag.{Flag}
+use Rattle.pg_run.specs.pg_register.declared.place.Place.{Place}
+use Rattle.pg_run.specs.pg_entries.declared.cell.Cell.{Cell}
+use Rattle.pg_run.specs.pg_entries.declared.cell.Cell.TheVariants as cell
+use Rattle.pg_run.specs.pg_entries.declared.entry.Entry.{Entry}
+use Rattle.pg_run.specs.pg_intent.declared.intent.Intent.{Intent}
+use Rattle.pg_run.specs.pg_intent.declared.key.IntentKey.{IntentKey}
+use Rattle.pg_run.specs.pg_intent.declared.key.IntentKey.TheVariants as intent_key
+use Rattle.pg_run.specs.pg_intent.Intent.{key_of}
+use Rattle.pg_run.specs.pg_intent.Intents.{aimed, ended, intent_at, stands}
+use Rattle.pg_run.specs.pg_pieces.declared.accepting.EdgeUse.{EdgeUse}
+use Rattle.pg_run.specs.pg_pieces.declared.accepting.EdgeUse.TheVariants as manner
+use Rattle.pg_run.specs.pg_msg.declared.message.Ask.TheVariants as ask
+use Rattle.pg_run.specs.pg_msg.declared.message.Ends.{Ends}
+use Rattle.pg_run.specs.pg_msg.declared.message.Message.TheVariants as message
+use Rattle.pg_run.specs.pg_msg.declared.work.Work.{Work}
+use Rattle.pg_run.specs.pg_msg.Work.{with_begun}
+use Rattle.pg_run.specs.pg_names.Names.{own_or_blank}
+use Rattle.pg_run.specs.pg_house.Work.{note_left}
+use Rattle.pg_run.proofs.pg_house.Made.{left_made}
+use Rattle.pg_run.proofs.theory_flood_pieces.Choices.{chosen}
+use Rattle.pg_run.specs.pg_replica.declared.replica.Replica.{Replica}
+use Rattle.pg_run.specs.pg_store.declared.store.Store.{Store}
+use Rattle.pg_run.specs.pg_store.Beginning.{with_intents}
+use Rattle.pg_run.specs.pg_store.Births.{birth_of, fill_at, has_birth, is_pending, wish_at, with_wishes}
+use Rattle.pg_run.specs.pg_store.Links.{is_clean, is_linked, is_new_link, knows_later, link, put_link, unlink}
+use Rattle.pg_run.specs.pg_store.Seen.{server_of}
+use Rattle.pg_run.specs.pg_store.Servers.{next_target}
+use Rattle.pg_run.specs.pg_store.Store.{entry_news, is_full, is_held, is_new_version, is_newer_flag, is_newer_place, replica_at}
+use Rattle.pg_run.specs.pg_store.Wishes.{aim_wish}
+use Rattle.pg_run.specs.pg_pieces.Accepting.{accept, is_accepted, is_answer, link_peer, met, with_gone, with_link}
+use Rattle.pg_run.specs.pg_cells.Cells.{taken}
+use Rattle.pg_run.specs.pg_pieces.Done.{Done, idle}
+use Rattle.pg_run.specs.pg_pieces.Intending.{begin_intent, with_begun_if}
+use Rattle.pg_run.specs.pg_pieces.Posting.{reply}
+use Rattle.pg_run.specs.pg_pieces.Taking.{is_any_news, take_entry_noted, take_flag_noted, take_flags_noted, take_place_noted, with_doubt, with_left_if}
+use Rattle.pg_run.proofs.pg_pieces.News.{news_made}
+use Rattle.pg_run.specs.pg_repair.Confirming.{end_confirmed, is_confirmed}
+use Rattle.pg_run.specs.pg_repair.Fetching.{answered_fetch, ends_to, fetch, give, given}
+use Rattle.pg_run.specs.pg_repair.Granting.{aim_fill, fill_asks, turn_fill, turn_wish, wish_asks}
+use Rattle.pg_run.specs.pg_repair.NoneHere.{does_ask, turn}
+use Rattle.pg_run.specs.pg_graph.Leaving.{begin_byes, bye_to, gives_leave, leave, leave_given}
+use Rattle.pg_run.specs.pg_graph.Seeking.{answered_seek, seek}
+use Rattle.pg_run.proofs.pg_graph.LeaveOk.{byes_by}
+use Rattle.pg_run.specs.pg_graph.Walks.{edges_of, goes_on, meet_origin, most_hops, onward, walk, walk_along, walk_from, walk_of, walk_of_tick, walk_on, walked, with_few_edges}
+use Rattle.pg_run.specs.pg_repair.Telling.{end_told, is_told}
 
 -- ---- names that stay
 

@@ -2,36 +2,36 @@
 -- then.
 use Rattle.std.proofs.Common.{ℕ, ◌≡◌, Bool, true, false, cond, List, [], ◌∷◌, ◌++◌, map, None, Some, refl, sym, ap, subst, ◌∙◌, inl, inr}
 use Rattle.std.specs.List.{AllByRecursion, IsDistinct, flat_map}
-use Rattle.law_passing.specs.pg_base.declared.id.FileId.{FileId}
-use Rattle.law_passing.specs.pg_base.declared.policy.Policy.{Policy}
-use Rattle.law_passing.specs.pg_base.Id.{is_same_file}
-use Rattle.law_passing.specs.pg_base.Stamp.{is_before}
-use Rattle.law_passing.proofs.pg_base.Orders.{is_same_file-true}
-use Rattle.law_passing.specs.pg_content.Content.{Among}
-use Rattle.law_passing.specs.pg_register.Flag.{IsByServer}
-use Rattle.law_passing.specs.pg_register.Place.{blank_place, first_stamp, root}
-use Rattle.law_passing.specs.pg_entries.declared.entry.Entry.{Entry}
-use Rattle.law_passing.specs.pg_intent.declared.intent.Intent.{Intent}
-use Rattle.law_passing.specs.pg_intent.declared.intent.Intent.TheVariants as intent
-use Rattle.law_passing.specs.pg_intent.declared.key.IntentKey.{IntentKey}
-use Rattle.law_passing.specs.pg_intent.declared.key.IntentKey.TheVariants as key
-use Rattle.law_passing.specs.pg_intent.Intent.{key_of}
-use Rattle.law_passing.specs.pg_intent.Intents.{HaveOwnKeys, ended, intent_at}
-use Rattle.law_passing.specs.pg_intent.Key.{is_same_key}
-use Rattle.law_passing.proofs.pg_intent.Found.{ended_found}
-use Rattle.law_passing.proofs.pg_intent.SameKey.{is_same_key-refl, is_same_key-symm}
-use Rattle.law_passing.specs.pg_names.declared.attributes.Attributes.{Attributes}
-use Rattle.law_passing.specs.pg_names.Names.{is_dir, known}
-use Rattle.law_passing.specs.pg_house.Facts.{IsHeld}
-use Rattle.law_passing.proofs.theory_flood_pieces.Choices.{chosen}
-use Rattle.law_passing.specs.pg_store.declared.store.Store.{Store}
-use Rattle.law_passing.specs.pg_store.Beginning.{begin, patches_of, put_new, take_patches, take_told_in, with_intents}
-use Rattle.law_passing.specs.pg_store.Store.{is_newer_entry, put_entry, take_entry}
-use Rattle.law_passing.specs.pg_run.Carried.{patch_taken, patches_taken}
-use Rattle.law_passing.specs.pg_run.Took.{Take, entry_takes, flags_of, places_of}
-use Rattle.law_passing.specs.pg_run.Took.Take.{Began}
-use Rattle.law_passing.specs.pg_run.Took.Taker.{Itself}
-use Rattle.law_passing.proofs.pg_run.Lists.{among_back, among_front, among_parts}
+use Rattle.pg_run.specs.pg_base.declared.id.FileId.{FileId}
+use Rattle.pg_run.specs.pg_base.declared.policy.Policy.{Policy}
+use Rattle.pg_run.specs.pg_base.Id.{is_same_file}
+use Rattle.pg_run.specs.pg_base.Stamp.{is_before}
+use Rattle.pg_run.proofs.pg_base.Orders.{is_same_file-true}
+use Rattle.pg_run.specs.pg_content.Content.{Among}
+use Rattle.pg_run.specs.pg_register.Flag.{IsByServer}
+use Rattle.pg_run.specs.pg_register.Place.{blank_place, first_stamp, root}
+use Rattle.pg_run.specs.pg_entries.declared.entry.Entry.{Entry}
+use Rattle.pg_run.specs.pg_intent.declared.intent.Intent.{Intent}
+use Rattle.pg_run.specs.pg_intent.declared.intent.Intent.TheVariants as intent
+use Rattle.pg_run.specs.pg_intent.declared.key.IntentKey.{IntentKey}
+use Rattle.pg_run.specs.pg_intent.declared.key.IntentKey.TheVariants as key
+use Rattle.pg_run.specs.pg_intent.Intent.{key_of}
+use Rattle.pg_run.specs.pg_intent.Intents.{HaveOwnKeys, ended, intent_at}
+use Rattle.pg_run.specs.pg_intent.Key.{is_same_key}
+use Rattle.pg_run.proofs.pg_intent.Found.{ended_found}
+use Rattle.pg_run.proofs.pg_intent.SameKey.{is_same_key-refl, is_same_key-symm}
+use Rattle.pg_run.specs.pg_names.declared.attributes.Attributes.{Attributes}
+use Rattle.pg_run.specs.pg_names.Names.{is_dir, known}
+use Rattle.pg_run.specs.pg_house.Facts.{IsHeld}
+use Rattle.pg_run.proofs.theory_flood_pieces.Choices.{chosen}
+use Rattle.pg_run.specs.pg_store.declared.store.Store.{Store}
+use Rattle.pg_run.specs.pg_store.Beginning.{begin, patches_of, put_new, take_patches, take_told_in, with_intents}
+use Rattle.pg_run.specs.pg_store.Store.{is_newer_entry, put_entry, take_entry}
+use Rattle.pg_run.specs.Carried.{patch_taken, patches_taken}
+use Rattle.pg_run.specs.Took.{Take, entry_takes, flags_of, places_of}
+use Rattle.pg_run.specs.Took.Take.{Began}
+use Rattle.pg_run.specs.Took.Taker.{Itself}
+use Rattle.pg_run.proofs.Lists.{among_back, among_front, among_parts}
 use Rattle.law_names.specs.Goes.{Goes}
 use Rattle.law_names.proofs.Beginning.{goes_begun, granted}
 use Rattle.law_names.proofs.Going.{goes_entry, goes_reordered, still_held}

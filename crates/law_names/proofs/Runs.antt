@@ -1,26 +1,26 @@
 -- After any events each server knows of names what its replicas took.
 use Rattle.std.proofs.Common.{ℕ, ◌≡◌, ◌≤◌, Bool, true, false, cond, List, [], ◌∷◌, ◌++◌, map, Option, Some, refl, sym, ap, subst, ◌∙◌, inl, inr}
-use Rattle.law_passing.specs.pg_base.declared.id.FileId.{FileId}
-use Rattle.law_passing.specs.pg_content.Content.{Among}
-use Rattle.law_passing.specs.pg_msg.declared.update.Update.{Update}
-use Rattle.law_passing.specs.pg_msg.declared.update.Update.TheVariants as update
-use Rattle.law_passing.specs.pg_event.declared.event.Event.{Event}
-use Rattle.law_passing.specs.pg_event.declared.entry.VoidCause.{VoidCause}
-use Rattle.law_passing.specs.pg_store.declared.store.Store.{Store}
-use Rattle.law_passing.specs.pg_store.Seen.{removed_of}
-use Rattle.law_passing.specs.pg_server.declared.input.Input.{Input}
-use Rattle.law_passing.specs.pg_server.declared.input.Input.TheVariants as input
-use Rattle.law_passing.specs.pg_server.Local.{effect, takes_effect}
-use Rattle.law_passing.specs.pg_run.Asking.{Asked}
-use Rattle.law_passing.specs.pg_run.Carried.{came, gone_in, strikes}
-use Rattle.law_passing.specs.pg_run.Known.{IsPlaceOf, Told, of_run}
-use Rattle.law_passing.specs.pg_run.Laws.{NamesMerge}
-use Rattle.law_passing.specs.pg_run.Passed.{passed, passed_with}
-use Rattle.law_passing.specs.pg_run.Run.{Taking, World, brought, effect_step, first_made, idle_step, made_behind, made_takes, removed_then, run, start, taking_in, took_after, took_first, world_after}
-use Rattle.law_passing.specs.pg_run.Took.{Take, take_of, without_gone}
-use Rattle.law_passing.proofs.pg_run.Frame.{Acts, HasCome, holds_in_runs, next_is, no_server_comes, pair_after, run_more}
-use Rattle.law_passing.proofs.pg_run.Lists.{among_back, among_front}
-use Rattle.law_passing.proofs.pg_run.Makes.{is_made_in_parts}
+use Rattle.pg_run.specs.pg_base.declared.id.FileId.{FileId}
+use Rattle.pg_run.specs.pg_content.Content.{Among}
+use Rattle.pg_run.specs.pg_msg.declared.update.Update.{Update}
+use Rattle.pg_run.specs.pg_msg.declared.update.Update.TheVariants as update
+use Rattle.pg_run.specs.pg_event.declared.event.Event.{Event}
+use Rattle.pg_run.specs.pg_event.declared.entry.VoidCause.{VoidCause}
+use Rattle.pg_run.specs.pg_store.declared.store.Store.{Store}
+use Rattle.pg_run.specs.pg_store.Seen.{removed_of}
+use Rattle.pg_run.specs.pg_server.declared.input.Input.{Input}
+use Rattle.pg_run.specs.pg_server.declared.input.Input.TheVariants as input
+use Rattle.pg_run.specs.pg_server.Local.{effect, takes_effect}
+use Rattle.pg_run.specs.Asking.{Asked}
+use Rattle.pg_run.specs.Carried.{came, gone_in, strikes}
+use Rattle.pg_run.specs.Known.{IsPlaceOf, Told, of_run}
+use Rattle.pg_run.specs.Laws.{NamesMerge}
+use Rattle.pg_run.specs.Passed.{passed, passed_with}
+use Rattle.pg_run.specs.Run.{Taking, World, brought, effect_step, first_made, idle_step, made_behind, made_takes, removed_then, run, start, taking_in, took_after, took_first, world_after}
+use Rattle.pg_run.specs.Took.{Take, take_of, without_gone}
+use Rattle.pg_run.proofs.Frame.{Acts, HasCome, holds_in_runs, next_is, no_server_comes, pair_after, run_more}
+use Rattle.pg_run.proofs.Lists.{among_back, among_front}
+use Rattle.pg_run.proofs.Makes.{is_made_in_parts}
 use Rattle.law_names.specs.Goes.{Goes}
 use Rattle.law_names.specs.Merged.{AreMerged, AreTakesTold, IsMerged, NamesStandOn, StandsOn}
 use Rattle.law_names.proofs.Effects.{IsApart, input_goes}

@@ -1,19 +1,19 @@
 -- What is told does not depend on the order of takes.
 use Rattle.std.proofs.Common.{◌≡◌, Bool, true, false, List, ◌∷◌, refl, sym, ap, subst, ◌∙◌, inl, inr, ◌⊎◌}
 use Rattle.std.proofs.lemmas.Bool.{false≢true}
-use Rattle.law_passing.specs.pg_base.declared.id.FileId.{FileId}
-use Rattle.law_passing.specs.pg_base.declared.stamp.Stamp.{Stamp}
-use Rattle.law_passing.specs.pg_content.Content.{Among}
-use Rattle.law_passing.specs.pg_register.declared.flag.Flag.{Flag}
-use Rattle.law_passing.specs.pg_register.declared.place.Place.{Place}
-use Rattle.law_passing.specs.pg_entries.declared.entry.Entry.{Entry}
-use Rattle.law_passing.specs.pg_names.declared.attributes.Attributes.{Attributes}
-use Rattle.law_passing.specs.pg_names.Names.{NamesValue, cell_at, or_blank, own_at, own_or_blank}
-use Rattle.law_passing.specs.pg_house.Facts.{IsHeld}
-use Rattle.law_passing.specs.pg_run.Took.{Take, Taker, is_held}
-use Rattle.law_passing.specs.pg_run.Took.Take.{Began, TookFlag, TookPlace, TookVersion}
-use Rattle.law_passing.specs.pg_run.Took.Taker.{InDir, Itself}
-use Rattle.law_passing.specs.pg_run.Passed.{has_cell}
+use Rattle.pg_run.specs.pg_base.declared.id.FileId.{FileId}
+use Rattle.pg_run.specs.pg_base.declared.stamp.Stamp.{Stamp}
+use Rattle.pg_run.specs.pg_content.Content.{Among}
+use Rattle.pg_run.specs.pg_register.declared.flag.Flag.{Flag}
+use Rattle.pg_run.specs.pg_register.declared.place.Place.{Place}
+use Rattle.pg_run.specs.pg_entries.declared.entry.Entry.{Entry}
+use Rattle.pg_run.specs.pg_names.declared.attributes.Attributes.{Attributes}
+use Rattle.pg_run.specs.pg_names.Names.{NamesValue, cell_at, or_blank, own_at, own_or_blank}
+use Rattle.pg_run.specs.pg_house.Facts.{IsHeld}
+use Rattle.pg_run.specs.Took.{Take, Taker, is_held}
+use Rattle.pg_run.specs.Took.Take.{Began, TookFlag, TookPlace, TookVersion}
+use Rattle.pg_run.specs.Took.Taker.{InDir, Itself}
+use Rattle.pg_run.specs.Passed.{has_cell}
 use Rattle.law_passing.specs.Newest.{AreNewest, IsLatest}
 use Rattle.law_passing.specs.Tells.{AreApart, HasFlag, HasPlace, IsCellOf, KnowsPlace, Tells}
 use Rattle.law_passing.proofs.Latest.{any_of, latest_same}

@@ -2,29 +2,29 @@
 -- what a server knows then is what all of this comes to.
 use Rattle.std.proofs.Common.{ℕ, ◌≡◌, true, List, [], ◌∷◌, ◌++◌, map, drop, length, refl, sym, ap, subst, ◌∙◌, inl, inr}
 use Rattle.std.proofs.lemmas.List.{append-nil, append_assoc}
-use Rattle.law_passing.specs.pg_base.declared.id.FileId.{FileId}
-use Rattle.law_passing.specs.pg_content.Content.{Among}
-use Rattle.law_passing.specs.pg_msg.declared.update.Update.{Update}
-use Rattle.law_passing.specs.pg_msg.declared.update.Update.TheVariants as update
-use Rattle.law_passing.specs.pg_msg.declared.work.Work.{Work}
-use Rattle.law_passing.specs.pg_msg.Work.{with_made}
-use Rattle.law_passing.specs.pg_house.Facts.{IsOneOf}
-use Rattle.law_passing.specs.pg_house.House.{house}
-use Rattle.law_passing.specs.pg_house.Work.{State, state_of}
-use Rattle.law_passing.proofs.pg_house.Replaced.{made_stays}
-use Rattle.law_passing.proofs.theory_flood_pieces.Settling.{goldless_own}
-use Rattle.law_passing.proofs.theory_flood_pieces.Touching.{same_names}
-use Rattle.law_passing.specs.pg_store.declared.store.Store.{Store}
-use Rattle.law_passing.specs.pg_store.Store.{with_names}
-use Rattle.law_passing.specs.pg_pieces.Done.{Done}
-use Rattle.law_passing.specs.pg_pieces.Golds.{is_goldless}
-use Rattle.law_passing.specs.pg_pieces.Making.{own_next, raise_flag}
-use Rattle.law_passing.specs.pg_cells.Settling.{ruled, rules, settle}
-use Rattle.law_passing.proofs.pg_cells.Settled.{settle_gives}
-use Rattle.law_passing.specs.pg_run.Passed.{passed, passed_with}
-use Rattle.law_passing.specs.pg_run.Took.{Take, take_of}
-use Rattle.law_passing.proofs.pg_run.Knowing.{Within, made_within, passed_within, told_itself, within_back, within_parts, within_then}
-use Rattle.law_passing.proofs.pg_run.Lists.{among_back, among_front}
+use Rattle.pg_run.specs.pg_base.declared.id.FileId.{FileId}
+use Rattle.pg_run.specs.pg_content.Content.{Among}
+use Rattle.pg_run.specs.pg_msg.declared.update.Update.{Update}
+use Rattle.pg_run.specs.pg_msg.declared.update.Update.TheVariants as update
+use Rattle.pg_run.specs.pg_msg.declared.work.Work.{Work}
+use Rattle.pg_run.specs.pg_msg.Work.{with_made}
+use Rattle.pg_run.specs.pg_house.Facts.{IsOneOf}
+use Rattle.pg_run.specs.pg_house.House.{house}
+use Rattle.pg_run.specs.pg_house.Work.{State, state_of}
+use Rattle.pg_run.proofs.pg_house.Replaced.{made_stays}
+use Rattle.pg_run.proofs.theory_flood_pieces.Settling.{goldless_own}
+use Rattle.pg_run.proofs.theory_flood_pieces.Touching.{same_names}
+use Rattle.pg_run.specs.pg_store.declared.store.Store.{Store}
+use Rattle.pg_run.specs.pg_store.Store.{with_names}
+use Rattle.pg_run.specs.pg_pieces.Done.{Done}
+use Rattle.pg_run.specs.pg_pieces.Golds.{is_goldless}
+use Rattle.pg_run.specs.pg_pieces.Making.{own_next, raise_flag}
+use Rattle.pg_run.specs.pg_cells.Settling.{ruled, rules, settle}
+use Rattle.pg_run.proofs.pg_cells.Settled.{settle_gives}
+use Rattle.pg_run.specs.Passed.{passed, passed_with}
+use Rattle.pg_run.specs.Took.{Take, take_of}
+use Rattle.pg_run.proofs.Knowing.{Within, made_within, passed_within, told_itself, within_back, within_parts, within_then}
+use Rattle.pg_run.proofs.Lists.{among_back, among_front}
 use Rattle.law_names.specs.Goes.{Goes}
 use Rattle.law_passing.specs.Tells.{AreApart}
 use Rattle.law_names.proofs.Going.{goes_flag, goes_on}

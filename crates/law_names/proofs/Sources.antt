@@ -2,58 +2,58 @@
 -- stamps, and flags by server, birth and number.
 use Rattle.std.proofs.Common.{ℕ, ◌≡◌, ◌==◌, ◌&&◌, ◌||◌, nat_lt, Bool, true, false, cond, List, [], ◌∷◌, ◌++◌, map, Option, None, Some, Result, Ok, Err, refl, sym, subst, ◌∙◌, inl, inr, ◌⊎◌, arith}
 use Rattle.std.proofs.lemmas.Bool.Decides.{nat_tests}
-use Rattle.law_passing.specs.pg_base.declared.id.FileId.{FileId}
-use Rattle.law_passing.specs.pg_base.Id.{is_same_file}
-use Rattle.law_passing.specs.pg_base.Stamp.{is_before}
-use Rattle.law_passing.proofs.pg_base.Orders.{stamp_of_parts}
-use Rattle.law_passing.specs.pg_content.Content.{Among}
-use Rattle.law_passing.proofs.pg_content.Members.{among_map}
-use Rattle.law_passing.specs.pg_register.declared.flag.Flag.{Flag}
-use Rattle.law_passing.specs.pg_register.declared.place.Place.{Place}
-use Rattle.law_passing.specs.pg_register.Place.{first_stamp, root}
-use Rattle.law_passing.specs.pg_entries.declared.cell.Cell.{Cell}
-use Rattle.law_passing.specs.pg_entries.declared.cell.Cell.TheVariants as cell
-use Rattle.law_passing.specs.pg_entries.declared.entry.Entry.{Entry as ChildEntry}
-use Rattle.law_passing.specs.pg_event.declared.entry.Entry.{Entry}
-use Rattle.law_passing.specs.pg_intent.declared.intent.Intent.{Intent}
-use Rattle.law_passing.specs.pg_intent.declared.intent.Intent.TheVariants as intent
-use Rattle.law_passing.specs.pg_msg.declared.message.Message.{Message}
-use Rattle.law_passing.specs.pg_msg.declared.message.Message.TheVariants as message
-use Rattle.law_passing.specs.pg_msg.declared.update.Update.{Update}
-use Rattle.law_passing.specs.pg_msg.declared.update.Update.TheVariants as update
-use Rattle.law_passing.specs.pg_msg.Work.{new_work, with_made}
-use Rattle.law_passing.specs.pg_call.declared.call.Call.{Call}
-use Rattle.law_passing.specs.pg_call.declared.call.Call.TheVariants as call
-use Rattle.law_passing.specs.pg_call.declared.reply.Reply.{Reply}
-use Rattle.law_passing.specs.pg_call.declared.reply.Reply.TheVariants as reply
-use Rattle.law_passing.specs.pg_names.Names.{cell_at, is_dir}
-use Rattle.law_passing.specs.pg_house.Passing.{is_update}
-use Rattle.law_passing.specs.pg_house.Returning.{is_root}
-use Rattle.law_passing.specs.pg_store.declared.store.Store.{Store}
-use Rattle.law_passing.specs.pg_store.Births.{is_pending}
-use Rattle.law_passing.specs.pg_store.Start.{first_flags}
-use Rattle.law_passing.specs.pg_store.Store.{is_held}
-use Rattle.law_passing.specs.pg_pieces.Accepting.{is_current}
-use Rattle.law_passing.specs.pg_cells.Cells.{fits}
-use Rattle.law_passing.specs.pg_server.declared.input.Input.{Input}
-use Rattle.law_passing.specs.pg_server.declared.input.Input.TheVariants as input
-use Rattle.law_passing.specs.pg_checks.Answer.{answer, answered}
-use Rattle.law_passing.specs.pg_calls.Calls.{do_call}
-use Rattle.law_passing.specs.pg_calls.Forgetting.{begin_lost, dead_at, dirs_of, fill_lost, forget_lost, is_wanted, last_place, last_listing, lost_at, strike_out, struck_out, unwished}
-use Rattle.law_passing.specs.pg_lookup.declared.paths.LookupError.{LookupError}
-use Rattle.law_passing.specs.pg_server.Local.{first_effect, reply_to}
-use Rattle.law_passing.specs.pg_run.Asking.{Asked}
-use Rattle.law_passing.specs.pg_run.Carried.{anew_takes, begun_by, came, came_by, carried, forgotten_takes, granted_takes, known_takes, patch_taken, patches_taken, struck_by, struck_takes}
-use Rattle.law_passing.specs.pg_run.Known.{AreTold, IsCellTold, IsEntryTold, IsFlagOf, IsMessageTold, IsPlaceOf, Told, WasMade, WasRaised, of_run}
-use Rattle.law_passing.specs.pg_run.Run.{World}
-use Rattle.law_passing.specs.pg_run.Took.{Take, Taker, entry_takes, first_place, flags_of, places_of, take_of, takes_in}
-use Rattle.law_passing.specs.pg_run.Took.Take.{Began, TookFlag, TookPlace, TookVersion}
-use Rattle.law_passing.specs.pg_run.Took.Taker.{InDir, Itself}
-use Rattle.law_passing.proofs.pg_run.Knowing.{Within}
-use Rattle.law_passing.proofs.pg_run.Lists.{among_parts, among_pieces}
-use Rattle.law_passing.proofs.pg_run.Striking.{marked_made}
+use Rattle.pg_run.specs.pg_base.declared.id.FileId.{FileId}
+use Rattle.pg_run.specs.pg_base.Id.{is_same_file}
+use Rattle.pg_run.specs.pg_base.Stamp.{is_before}
+use Rattle.pg_run.proofs.pg_base.Orders.{stamp_of_parts}
+use Rattle.pg_run.specs.pg_content.Content.{Among}
+use Rattle.pg_run.proofs.pg_content.Members.{among_map}
+use Rattle.pg_run.specs.pg_register.declared.flag.Flag.{Flag}
+use Rattle.pg_run.specs.pg_register.declared.place.Place.{Place}
+use Rattle.pg_run.specs.pg_register.Place.{first_stamp, root}
+use Rattle.pg_run.specs.pg_entries.declared.cell.Cell.{Cell}
+use Rattle.pg_run.specs.pg_entries.declared.cell.Cell.TheVariants as cell
+use Rattle.pg_run.specs.pg_entries.declared.entry.Entry.{Entry as ChildEntry}
+use Rattle.pg_run.specs.pg_event.declared.entry.Entry.{Entry}
+use Rattle.pg_run.specs.pg_intent.declared.intent.Intent.{Intent}
+use Rattle.pg_run.specs.pg_intent.declared.intent.Intent.TheVariants as intent
+use Rattle.pg_run.specs.pg_msg.declared.message.Message.{Message}
+use Rattle.pg_run.specs.pg_msg.declared.message.Message.TheVariants as message
+use Rattle.pg_run.specs.pg_msg.declared.update.Update.{Update}
+use Rattle.pg_run.specs.pg_msg.declared.update.Update.TheVariants as update
+use Rattle.pg_run.specs.pg_msg.Work.{new_work, with_made}
+use Rattle.pg_run.specs.pg_call.declared.call.Call.{Call}
+use Rattle.pg_run.specs.pg_call.declared.call.Call.TheVariants as call
+use Rattle.pg_run.specs.pg_call.declared.reply.Reply.{Reply}
+use Rattle.pg_run.specs.pg_call.declared.reply.Reply.TheVariants as reply
+use Rattle.pg_run.specs.pg_names.Names.{cell_at, is_dir}
+use Rattle.pg_run.specs.pg_house.Passing.{is_update}
+use Rattle.pg_run.specs.pg_house.Returning.{is_root}
+use Rattle.pg_run.specs.pg_store.declared.store.Store.{Store}
+use Rattle.pg_run.specs.pg_store.Births.{is_pending}
+use Rattle.pg_run.specs.pg_store.Start.{first_flags}
+use Rattle.pg_run.specs.pg_store.Store.{is_held}
+use Rattle.pg_run.specs.pg_pieces.Accepting.{is_current}
+use Rattle.pg_run.specs.pg_cells.Cells.{fits}
+use Rattle.pg_run.specs.pg_server.declared.input.Input.{Input}
+use Rattle.pg_run.specs.pg_server.declared.input.Input.TheVariants as input
+use Rattle.pg_run.specs.pg_checks.Answer.{answer, answered}
+use Rattle.pg_run.specs.pg_calls.Calls.{do_call}
+use Rattle.pg_run.specs.pg_calls.Forgetting.{begin_lost, dead_at, dirs_of, fill_lost, forget_lost, is_wanted, last_place, last_listing, lost_at, strike_out, struck_out, unwished}
+use Rattle.pg_run.specs.pg_lookup.declared.paths.LookupError.{LookupError}
+use Rattle.pg_run.specs.pg_server.Local.{first_effect, reply_to}
+use Rattle.pg_run.specs.Asking.{Asked}
+use Rattle.pg_run.specs.Carried.{anew_takes, begun_by, came, came_by, carried, forgotten_takes, granted_takes, known_takes, patch_taken, patches_taken, struck_by, struck_takes}
+use Rattle.pg_run.specs.Known.{AreTold, IsCellTold, IsEntryTold, IsFlagOf, IsMessageTold, IsPlaceOf, Told, WasMade, WasRaised, of_run}
+use Rattle.pg_run.specs.Run.{World}
+use Rattle.pg_run.specs.Took.{Take, Taker, entry_takes, first_place, flags_of, places_of, take_of, takes_in}
+use Rattle.pg_run.specs.Took.Take.{Began, TookFlag, TookPlace, TookVersion}
+use Rattle.pg_run.specs.Took.Taker.{InDir, Itself}
+use Rattle.pg_run.proofs.Knowing.{Within}
+use Rattle.pg_run.proofs.Lists.{among_parts, among_pieces}
+use Rattle.pg_run.proofs.Striking.{marked_made}
 use Rattle.law_names.specs.Merged.{AreTakesTold, IsTakeTold, StandsOn}
-use Rattle.law_passing.proofs.pg_calls.LastPlace.{last_is}
+use Rattle.pg_run.proofs.pg_calls.LastPlace.{last_is}
 use Rattle.law_passing.specs.Newest.{IsAnyOf}
 use Rattle.law_passing.specs.Tells.{AreApart, KnowsFlag, KnowsPlace}
 use Rattle.law_passing.proofs.Latest.{first_stamp_is}

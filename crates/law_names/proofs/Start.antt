@@ -2,27 +2,27 @@
 use Rattle.std.proofs.Common.{ℕ, ◌≡◌, Bool, true, false, cond, List, None, Some, refl, sym, ap, subst, ◌∙◌, inl, inr}
 use Rattle.std.proofs.lemmas.Bool.{false≢true}
 use Rattle.std.proofs.lemmas.Option.{none-some}
-use Rattle.law_passing.specs.pg_base.declared.id.FileId.{FileId}
-use Rattle.law_passing.specs.pg_base.Id.{is_same_file}
-use Rattle.law_passing.proofs.pg_base.Orders.{is_same_file-refl, is_same_file-true}
-use Rattle.law_passing.specs.pg_content.Content.{Among}
-use Rattle.law_passing.proofs.pg_content.Members.{among_map}
-use Rattle.law_passing.specs.pg_register.declared.flag.Flag.{Flag}
-use Rattle.law_passing.specs.pg_register.declared.place.Place.{Place}
-use Rattle.law_passing.specs.pg_register.Place.{blank_place, root, root_place}
-use Rattle.law_passing.specs.pg_names.declared.attributes.Attributes.{Attributes}
-use Rattle.law_passing.specs.pg_names.Names.{NamesValue, blank_own, cell_at, new_names, or_blank, own_at, own_or_blank}
-use Rattle.law_passing.proofs.pg_names.Holding.{begun_cells}
-use Rattle.law_passing.specs.pg_house.Facts.{IsHeld}
-use Rattle.law_passing.proofs.pg_house.Truths.{chosen_false}
-use Rattle.law_passing.proofs.theory_flood_pieces.Start.{first_sorted, start_whole}
-use Rattle.law_passing.specs.pg_store.Start.{first_flags, first_names, root_own}
-use Rattle.law_passing.specs.pg_run.Known.{of_run}
-use Rattle.law_passing.specs.pg_run.Run.{start}
-use Rattle.law_passing.specs.pg_run.Took.{Take, Taker, first_takes, is_held}
-use Rattle.law_passing.specs.pg_run.Took.Take.{Began, TookFlag}
-use Rattle.law_passing.specs.pg_run.Took.Taker.{InDir, Itself}
-use Rattle.law_passing.specs.pg_run.Passed.{has_cell}
+use Rattle.pg_run.specs.pg_base.declared.id.FileId.{FileId}
+use Rattle.pg_run.specs.pg_base.Id.{is_same_file}
+use Rattle.pg_run.proofs.pg_base.Orders.{is_same_file-refl, is_same_file-true}
+use Rattle.pg_run.specs.pg_content.Content.{Among}
+use Rattle.pg_run.proofs.pg_content.Members.{among_map}
+use Rattle.pg_run.specs.pg_register.declared.flag.Flag.{Flag}
+use Rattle.pg_run.specs.pg_register.declared.place.Place.{Place}
+use Rattle.pg_run.specs.pg_register.Place.{blank_place, root, root_place}
+use Rattle.pg_run.specs.pg_names.declared.attributes.Attributes.{Attributes}
+use Rattle.pg_run.specs.pg_names.Names.{NamesValue, blank_own, cell_at, new_names, or_blank, own_at, own_or_blank}
+use Rattle.pg_run.proofs.pg_names.Holding.{begun_cells}
+use Rattle.pg_run.specs.pg_house.Facts.{IsHeld}
+use Rattle.pg_run.proofs.pg_house.Truths.{chosen_false}
+use Rattle.pg_run.proofs.theory_flood_pieces.Start.{first_sorted, start_whole}
+use Rattle.pg_run.specs.pg_store.Start.{first_flags, first_names, root_own}
+use Rattle.pg_run.specs.Known.{of_run}
+use Rattle.pg_run.specs.Run.{start}
+use Rattle.pg_run.specs.Took.{Take, Taker, first_takes, is_held}
+use Rattle.pg_run.specs.Took.Take.{Began, TookFlag}
+use Rattle.pg_run.specs.Took.Taker.{InDir, Itself}
+use Rattle.pg_run.specs.Passed.{has_cell}
 use Rattle.law_names.specs.Merged.{IsMerged, IsTakeTold}
 use Rattle.law_passing.specs.Newest.{AreNewest, IsLatest}
 use Rattle.law_passing.specs.Tells.{HasFlag, HasPlace, Tells}

@@ -1,8 +1,8 @@
 -- A server in the midst of an event: what it knows of names is what its replicas took.
 use Rattle.std.specs.Prelude.{ℕ, ◌≡◌, List}
-use Rattle.law_passing.specs.pg_names.Names.{NamesValue}
-use Rattle.law_passing.specs.pg_house.Facts.{IsLast, IsOfDirs}
-use Rattle.law_passing.specs.pg_run.Took.{Take}
+use Rattle.pg_run.specs.pg_names.Names.{NamesValue}
+use Rattle.pg_run.specs.pg_house.Facts.{IsLast, IsOfDirs}
+use Rattle.pg_run.specs.Took.{Take}
 use Rattle.law_passing.specs.Tells.{Tells}
 
 -- with what the house rules ask for besides

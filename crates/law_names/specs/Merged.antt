@@ -1,23 +1,23 @@
 -- All servers of a run: each knows just what its replicas took, and that was made in the run or was
 -- there at the start.
 use Rattle.std.specs.Prelude.{ℕ, ◌≡◌, false, List, []}
-use Rattle.law_passing.specs.pg_base.declared.id.FileId.{FileId}
-use Rattle.law_passing.specs.pg_base.declared.id.Kind.{Kind}
-use Rattle.law_passing.specs.pg_content.Content.{Among}
-use Rattle.law_passing.specs.pg_register.declared.flag.Flag.{Flag}
-use Rattle.law_passing.specs.pg_register.declared.place.Place.{Place}
-use Rattle.law_passing.specs.pg_event.declared.event.Event.{Event}
-use Rattle.law_passing.specs.pg_store.declared.store.Store.{Store}
-use Rattle.law_passing.specs.pg_store.Beginning.{patches_of}
-use Rattle.law_passing.specs.pg_store.Seen.{removed_of}
-use Rattle.law_passing.specs.pg_store.Store.{is_held}
-use Rattle.law_passing.specs.pg_calls.Naming.{next_id}
-use Rattle.law_passing.specs.pg_run.Intending.{IntendsInOrder, IntentionsAreInOrder}
-use Rattle.law_passing.specs.pg_run.Known.{CarriedIsKnown, FlagsHaveOwnNumbers, IsAllKnown, IsFlagOf, IsPlaceOf, PlacesHaveOwnStamps, Told, of_run}
-use Rattle.law_passing.specs.pg_run.Laws.{AtEach, store_after}
-use Rattle.law_passing.specs.pg_run.Run.{World}
-use Rattle.law_passing.specs.pg_run.Took.{Take}
-use Rattle.law_passing.specs.pg_run.Took.Take.{Began, TookFlag, TookPlace, TookVersion}
+use Rattle.pg_run.specs.pg_base.declared.id.FileId.{FileId}
+use Rattle.pg_run.specs.pg_base.declared.id.Kind.{Kind}
+use Rattle.pg_run.specs.pg_content.Content.{Among}
+use Rattle.pg_run.specs.pg_register.declared.flag.Flag.{Flag}
+use Rattle.pg_run.specs.pg_register.declared.place.Place.{Place}
+use Rattle.pg_run.specs.pg_event.declared.event.Event.{Event}
+use Rattle.pg_run.specs.pg_store.declared.store.Store.{Store}
+use Rattle.pg_run.specs.pg_store.Beginning.{patches_of}
+use Rattle.pg_run.specs.pg_store.Seen.{removed_of}
+use Rattle.pg_run.specs.pg_store.Store.{is_held}
+use Rattle.pg_run.specs.pg_calls.Naming.{next_id}
+use Rattle.pg_run.specs.Intending.{IntendsInOrder, IntentionsAreInOrder}
+use Rattle.pg_run.specs.Known.{CarriedIsKnown, FlagsHaveOwnNumbers, IsAllKnown, IsFlagOf, IsPlaceOf, PlacesHaveOwnStamps, Told, of_run}
+use Rattle.pg_run.specs.Laws.{AtEach, store_after}
+use Rattle.pg_run.specs.Run.{World}
+use Rattle.pg_run.specs.Took.{Take}
+use Rattle.pg_run.specs.Took.Take.{Began, TookFlag, TookPlace, TookVersion}
 use Rattle.law_names.specs.Goes.{Goes}
 
 -- ---- what it stands on, besides what `pg_run` has words for

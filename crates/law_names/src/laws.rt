@@ -1,7 +1,7 @@
 //! What holds of names in any run.
 
 ghost use Rattle.std.specs.Prelude.{ℕ};
-ghost use Rattle.law_passing.specs.pg_run.Laws.{NamesMerge};
+ghost use Rattle.pg_run.specs.Laws.{NamesMerge};
 ghost use Rattle.law_names.specs.Merged.{NamesStandOn};
 
 /// After any events a server holds just the things of which a replica began there, and knows of

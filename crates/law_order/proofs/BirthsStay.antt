@@ -3,40 +3,40 @@
 use Rattle.std.proofs.Common.{ℕ, ◌≡◌, ◌≤◌, ◌+◌, Bool, true, false, not, cond, is_some, Option, None, Some, option_map, refl, sym, ap, ◌∙◌, arith}
 use Rattle.std.proofs.lemmas.Bool.{false≢true}
 use Rattle.std.proofs.lemmas.Option.{none-some}
-use Rattle.pg_run.specs.pg_base.declared.id.FileId.{FileId}
-use Rattle.pg_run.proofs.pg_base.Orders.{is_same_file-refl}
-use Rattle.pg_run.specs.pg_intent.declared.intent.Intent.{Intent}
-use Rattle.pg_run.specs.pg_intent.declared.key.IntentKey.TheVariants as intent_key
-use Rattle.pg_run.specs.pg_intent.Intent.{key_of}
-use Rattle.pg_run.specs.pg_intent.Intents.{HaveOwnKeys, begun}
-use Rattle.pg_run.specs.pg_intent.Key.{is_same_key}
-use Rattle.pg_run.specs.pg_intent.declared.intent.Intent.TheVariants as intent
-use Rattle.pg_run.proofs.pg_intent.Kept.{own-aimed, own-begun, own-filter}
-use Rattle.pg_run.specs.pg_msg.declared.work.Work.{Work}
-use Rattle.pg_run.specs.pg_replica.declared.replica.Replica.{Replica}
-use Rattle.pg_run.specs.pg_replica.Replicas.{or_nothing}
-use Rattle.pg_run.specs.pg_store.declared.store.Store.{Store}
-use Rattle.pg_run.specs.pg_store.declared.wishes.Wish.{Wish}
-use Rattle.pg_run.specs.pg_store.Births.{birth_of, fill_at, wish_at, with_birth, with_wishes}
-use Rattle.pg_run.specs.pg_store.Servers.{first_target}
-use Rattle.pg_run.specs.pg_store.Store.{is_held}
-use Rattle.pg_run.specs.pg_store.Together.{AreBirths, AreTogether, IsGiven, birth_at}
-use Rattle.pg_run.specs.pg_store.Wishes.{wish_in, without_wish}
-use Rattle.pg_run.proofs.pg_store.Aiming.{aimed_births, gone_as_before}
-use Rattle.pg_run.proofs.pg_store.Given.{births_as_before}
-use Rattle.pg_run.proofs.pg_store.Pairs.{birth_as_before, intents_as_before}
-use Rattle.pg_run.proofs.pg_store.Wanted.{wish_behind}
-use Rattle.pg_run.proofs.pg_store.Wishing.{fill_births}
-use Rattle.pg_run.specs.pg_pieces.Done.{Done}
-use Rattle.pg_run.specs.pg_intentions.Beginning.{end_others, still_stands}
-use Rattle.pg_run.specs.pg_intentions.Confirms.{confirm_of}
-use Rattle.pg_run.specs.pg_intentions.Fills.{fill_birth, fill_of, files_to_fill, is_in, with_fill_birth, without_wished, wished_birth}
-use Rattle.pg_run.specs.pg_intentions.Intending.{begin_intent}
-use Rattle.pg_run.specs.pg_intentions.Patches.{patch_of}
-use Rattle.pg_run.specs.pg_intentions.Seeks.{seek_target}
-use Rattle.pg_run.proofs.pg_intentions.Standing.{begun_other, fill_ended}
-use Rattle.pg_run.proofs.theory_flood_pieces.Together.{replica_of_held}
-use Rattle.pg_run.specs.pg_server.Local.{intended}
+use Rattle.law_frame.specs.pg_run.pg_base.declared.id.FileId.{FileId}
+use Rattle.law_frame.proofs.pg_run.pg_base.Orders.{is_same_file-refl}
+use Rattle.law_frame.specs.pg_run.pg_intent.declared.intent.Intent.{Intent}
+use Rattle.law_frame.specs.pg_run.pg_intent.declared.key.IntentKey.TheVariants as intent_key
+use Rattle.law_frame.specs.pg_run.pg_intent.Intent.{key_of}
+use Rattle.law_frame.specs.pg_run.pg_intent.Intents.{HaveOwnKeys, begun}
+use Rattle.law_frame.specs.pg_run.pg_intent.Key.{is_same_key}
+use Rattle.law_frame.specs.pg_run.pg_intent.declared.intent.Intent.TheVariants as intent
+use Rattle.law_frame.proofs.pg_run.pg_intent.Kept.{own-aimed, own-begun, own-filter}
+use Rattle.law_frame.specs.pg_run.pg_msg.declared.work.Work.{Work}
+use Rattle.law_frame.specs.pg_run.pg_replica.declared.replica.Replica.{Replica}
+use Rattle.law_frame.specs.pg_run.pg_replica.Replicas.{or_nothing}
+use Rattle.law_frame.specs.pg_run.pg_store.declared.store.Store.{Store}
+use Rattle.law_frame.specs.pg_run.pg_store.declared.wishes.Wish.{Wish}
+use Rattle.law_frame.specs.pg_run.pg_store.Births.{birth_of, fill_at, wish_at, with_birth, with_wishes}
+use Rattle.law_frame.specs.pg_run.pg_store.Servers.{first_target}
+use Rattle.law_frame.specs.pg_run.pg_store.Store.{is_held}
+use Rattle.law_frame.specs.pg_run.pg_store.Together.{AreBirths, AreTogether, IsGiven, birth_at}
+use Rattle.law_frame.specs.pg_run.pg_store.Wishes.{wish_in, without_wish}
+use Rattle.law_frame.proofs.pg_run.pg_store.Aiming.{aimed_births, gone_as_before}
+use Rattle.law_frame.proofs.pg_run.pg_store.Given.{births_as_before}
+use Rattle.law_frame.proofs.pg_run.pg_store.Pairs.{birth_as_before, intents_as_before}
+use Rattle.law_frame.proofs.pg_run.pg_store.Wanted.{wish_behind}
+use Rattle.law_frame.proofs.pg_run.pg_store.Wishing.{fill_births}
+use Rattle.law_frame.specs.pg_run.pg_pieces.Done.{Done}
+use Rattle.law_frame.specs.pg_run.pg_intentions.Beginning.{end_others, still_stands}
+use Rattle.law_frame.specs.pg_run.pg_intentions.Confirms.{confirm_of}
+use Rattle.law_frame.specs.pg_run.pg_intentions.Fills.{fill_birth, fill_of, files_to_fill, is_in, with_fill_birth, without_wished, wished_birth}
+use Rattle.law_frame.specs.pg_run.pg_intentions.Intending.{begin_intent}
+use Rattle.law_frame.specs.pg_run.pg_intentions.Patches.{patch_of}
+use Rattle.law_frame.specs.pg_run.pg_intentions.Seeks.{seek_target}
+use Rattle.law_frame.proofs.pg_run.pg_intentions.Standing.{begun_other, fill_ended}
+use Rattle.law_frame.proofs.pg_run.theory_flood_pieces.Together.{replica_of_held}
+use Rattle.law_frame.specs.pg_run.pg_server.Local.{intended}
 use Rattle.law_frame.proofs.Ended.{intents_keep}
 
 -- a Patch, a Seek or a Confirm is no Fill

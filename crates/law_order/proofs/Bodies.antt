@@ -1,19 +1,19 @@
 -- What is noted of versions, and deltas that are kept, leave a server sound.
 use Rattle.std.proofs.Common.{ℕ, ◌≡◌, Option, None, Some, refl}
-use Rattle.pg_run.specs.pg_base.declared.id.FileId.{FileId}
-use Rattle.pg_run.specs.pg_announced.Announced.{NotesValue}
-use Rattle.pg_run.specs.pg_delta.declared.delta.KeptDelta.{KeptDelta}
-use Rattle.pg_run.specs.pg_replica.declared.replica.Replica.{Replica}
-use Rattle.pg_run.specs.pg_replica.Replica.{with_kept}
-use Rattle.pg_run.specs.pg_replica.Replicas.{ByFile, replica_in, replicas_keeping}
-use Rattle.pg_run.specs.pg_server.pg_transfer.Asking.{with_notes}
-use Rattle.pg_run.specs.pg_store.declared.store.Store.{Store}
-use Rattle.pg_run.specs.pg_store.Store.{keep_delta, replica_at}
-use Rattle.pg_run.specs.pg_store.Together.{HoldsAsBefore}
-use Rattle.pg_run.proofs.pg_store.Given.{births_as_before}
-use Rattle.pg_run.proofs.pg_store.Pairs.{made_seen, replicas_only, together_as_before}
-use Rattle.pg_run.specs.theory_flood_pieces.Whole.{IsWhole}
-use Rattle.pg_run.proofs.theory_flood_pieces.Whole.{AreGraphs, edges_at, graphs_of, graphs_put, whole_by}
+use Rattle.law_frame.specs.pg_run.pg_base.declared.id.FileId.{FileId}
+use Rattle.law_frame.specs.pg_run.pg_announced.Announced.{NotesValue}
+use Rattle.law_frame.specs.pg_run.pg_delta.declared.delta.KeptDelta.{KeptDelta}
+use Rattle.law_frame.specs.pg_run.pg_replica.declared.replica.Replica.{Replica}
+use Rattle.law_frame.specs.pg_run.pg_replica.Replica.{with_kept}
+use Rattle.law_frame.specs.pg_run.pg_replica.Replicas.{ByFile, replica_in, replicas_keeping}
+use Rattle.law_frame.specs.pg_run.pg_server.pg_transfer.Asking.{with_notes}
+use Rattle.law_frame.specs.pg_run.pg_store.declared.store.Store.{Store}
+use Rattle.law_frame.specs.pg_run.pg_store.Store.{keep_delta, replica_at}
+use Rattle.law_frame.specs.pg_run.pg_store.Together.{HoldsAsBefore}
+use Rattle.law_frame.proofs.pg_run.pg_store.Given.{births_as_before}
+use Rattle.law_frame.proofs.pg_run.pg_store.Pairs.{made_seen, replicas_only, together_as_before}
+use Rattle.law_frame.specs.pg_run.theory_flood_pieces.Whole.{IsWhole}
+use Rattle.law_frame.proofs.pg_run.theory_flood_pieces.Whole.{AreGraphs, edges_at, graphs_of, graphs_put, whole_by}
 use Rattle.law_order.specs.Saying.{Saying}
 use Rattle.law_order.proofs.Pieces.{named_on}
 use Rattle.law_order.proofs.Sounding.{Sound, sound_alike, sound_by}

@@ -4,63 +4,63 @@ use Rattle.std.specs.Option.{option_or}
 use Rattle.std.proofs.lemmas.Bool.{false≢true}
 use Rattle.std.proofs.lemmas.List.Elements.{All-nil}
 use Rattle.std.proofs.lemmas.Option.{none-some}
-use Rattle.pg_run.specs.pg_base.declared.id.FileId.{FileId}
-use Rattle.pg_run.specs.pg_base.declared.id.Kind.{Kind}
-use Rattle.pg_run.specs.pg_base.declared.id.Kind.TheVariants.{Dir, File}
-use Rattle.pg_run.specs.pg_base.declared.policy.Policy.{Policy}
-use Rattle.pg_run.specs.pg_base.declared.policy.Policy.TheVariants.{Last}
-use Rattle.pg_run.specs.pg_base.Id.{is_same_file}
-use Rattle.pg_run.proofs.pg_base.Orders.{is_same_file-true}
-use Rattle.pg_run.specs.pg_base.declared.stamp.Stamp.{Stamp}
-use Rattle.pg_run.specs.pg_patch.Ranges.{RangesValue}
-use Rattle.pg_run.specs.pg_intent.declared.intent.Intent.{Intent}
-use Rattle.pg_run.specs.pg_intent.declared.intent.Intent.TheVariants as intent
-use Rattle.pg_run.specs.pg_intent.declared.key.IntentKey.TheVariants as intent_key
-use Rattle.pg_run.specs.pg_intent.Intents.{has_key}
-use Rattle.pg_run.specs.pg_msg.declared.message.Message.TheVariants as message
-use Rattle.pg_run.specs.pg_msg.declared.update.Update.TheVariants as update
-use Rattle.pg_run.specs.pg_msg.declared.work.Work.{Work}
-use Rattle.pg_run.specs.pg_msg.Work.{with_made}
-use Rattle.pg_run.specs.pg_call.declared.call.Call.{Call}
-use Rattle.pg_run.specs.pg_call.declared.call.Call.TheVariants as call
-use Rattle.pg_run.specs.pg_call.declared.reply.Reply.TheVariants as reply
-use Rattle.pg_run.specs.pg_register.declared.flag.Flag.{Flag}
-use Rattle.pg_run.specs.pg_register.declared.place.Place.{Place}
-use Rattle.pg_run.specs.pg_register.Place.{root}
-use Rattle.pg_run.proofs.pg_register.ByServer.{IsByServer-nil}
-use Rattle.pg_run.specs.pg_names.declared.attributes.Attributes.{Attributes}
-use Rattle.pg_run.specs.pg_names.Names.{InodeValue, blank_own, is_dir, is_full_of, known, or_blank, own_of, own_or_blank}
-use Rattle.pg_run.specs.pg_house.Facts.{IsHeld}
-use Rattle.pg_run.specs.pg_lookup.declared.paths.LookupError.{LookupError}
-use Rattle.pg_run.specs.pg_store.declared.store.Store.{Store}
-use Rattle.pg_run.specs.pg_store.declared.wishes.Wish.{Wish}
-use Rattle.pg_run.specs.pg_store.Beginning.{begin}
-use Rattle.pg_run.specs.pg_store.Births.{draw_birth, fill_at, wish_at, with_birth, with_wish}
-use Rattle.pg_run.specs.pg_store.Store.{is_full, is_held, is_before_clock_end}
-use Rattle.pg_run.specs.pg_store.Together.{HoldsAsBefore, MayBegin}
-use Rattle.pg_run.proofs.pg_store.Aiming.{gone_as_before}
-use Rattle.pg_run.proofs.pg_store.Given.{births_as_before}
-use Rattle.pg_run.proofs.pg_store.Pairs.{birth_as_before}
-use Rattle.pg_run.proofs.pg_store.Wishing.{wish_births}
-use Rattle.pg_run.specs.pg_pieces.Done.{Done, idle}
-use Rattle.pg_run.proofs.pg_graph.LeaveOk.{found_keyed}
-use Rattle.pg_run.specs.pg_intentions.Needed.{IsToFill}
-use Rattle.pg_run.proofs.pg_intent.Found.{ended_found}
-use Rattle.pg_run.proofs.pg_intent.SameKey.{is_same_key-refl}
-use Rattle.pg_run.proofs.pg_intentions.Needs.{needed_comes, what_is_needed}
-use Rattle.pg_run.specs.pg_checks.declared.checks.NewName.{NewName}
-use Rattle.pg_run.specs.pg_checks.Answer.{answer, answered}
-use Rattle.pg_run.specs.pg_checks.Asking.{fresh_wish, holder, standing, wish_by}
-use Rattle.pg_run.specs.pg_checks.Checks.{new_name}
-use Rattle.pg_run.specs.pg_calls.Calls.{do_call}
-use Rattle.pg_run.specs.pg_calls.Dropping.{leave_of}
-use Rattle.pg_run.specs.pg_calls.Forgetting.{bare_entry, dead_at, is_wanted, root_place, unfilled, unwished}
-use Rattle.pg_run.specs.pg_calls.Making.{drawn, make_version, version_of, with_version}
-use Rattle.pg_run.specs.pg_calls.Naming.{begun, dead_place, next_id, place_in, with_first_version, with_id, with_thing}
-use Rattle.pg_run.proofs.pg_calls.InTime.{name_in_time}
-use Rattle.pg_run.proofs.pg_calls.Walked.{file_found, full_own}
-use Rattle.pg_run.specs.pg_server.Local.{done_of}
-use Rattle.pg_run.specs.theory_flood_pieces.Laws.{AreAlike}
+use Rattle.law_frame.specs.pg_run.pg_base.declared.id.FileId.{FileId}
+use Rattle.law_frame.specs.pg_run.pg_base.declared.id.Kind.{Kind}
+use Rattle.law_frame.specs.pg_run.pg_base.declared.id.Kind.TheVariants.{Dir, File}
+use Rattle.law_frame.specs.pg_run.pg_base.declared.policy.Policy.{Policy}
+use Rattle.law_frame.specs.pg_run.pg_base.declared.policy.Policy.TheVariants.{Last}
+use Rattle.law_frame.specs.pg_run.pg_base.Id.{is_same_file}
+use Rattle.law_frame.proofs.pg_run.pg_base.Orders.{is_same_file-true}
+use Rattle.law_frame.specs.pg_run.pg_base.declared.stamp.Stamp.{Stamp}
+use Rattle.law_frame.specs.pg_run.pg_patch.Ranges.{RangesValue}
+use Rattle.law_frame.specs.pg_run.pg_intent.declared.intent.Intent.{Intent}
+use Rattle.law_frame.specs.pg_run.pg_intent.declared.intent.Intent.TheVariants as intent
+use Rattle.law_frame.specs.pg_run.pg_intent.declared.key.IntentKey.TheVariants as intent_key
+use Rattle.law_frame.specs.pg_run.pg_intent.Intents.{has_key}
+use Rattle.law_frame.specs.pg_run.pg_msg.declared.message.Message.TheVariants as message
+use Rattle.law_frame.specs.pg_run.pg_msg.declared.update.Update.TheVariants as update
+use Rattle.law_frame.specs.pg_run.pg_msg.declared.work.Work.{Work}
+use Rattle.law_frame.specs.pg_run.pg_msg.Work.{with_made}
+use Rattle.law_frame.specs.pg_run.pg_call.declared.call.Call.{Call}
+use Rattle.law_frame.specs.pg_run.pg_call.declared.call.Call.TheVariants as call
+use Rattle.law_frame.specs.pg_run.pg_call.declared.reply.Reply.TheVariants as reply
+use Rattle.law_frame.specs.pg_run.pg_register.declared.flag.Flag.{Flag}
+use Rattle.law_frame.specs.pg_run.pg_register.declared.place.Place.{Place}
+use Rattle.law_frame.specs.pg_run.pg_register.Place.{root}
+use Rattle.law_frame.proofs.pg_run.pg_register.ByServer.{IsByServer-nil}
+use Rattle.law_frame.specs.pg_run.pg_names.declared.attributes.Attributes.{Attributes}
+use Rattle.law_frame.specs.pg_run.pg_names.Names.{InodeValue, blank_own, is_dir, is_full_of, known, or_blank, own_of, own_or_blank}
+use Rattle.law_frame.specs.pg_run.pg_house.Facts.{IsHeld}
+use Rattle.law_frame.specs.pg_run.pg_lookup.declared.paths.LookupError.{LookupError}
+use Rattle.law_frame.specs.pg_run.pg_store.declared.store.Store.{Store}
+use Rattle.law_frame.specs.pg_run.pg_store.declared.wishes.Wish.{Wish}
+use Rattle.law_frame.specs.pg_run.pg_store.Beginning.{begin}
+use Rattle.law_frame.specs.pg_run.pg_store.Births.{draw_birth, fill_at, wish_at, with_birth, with_wish}
+use Rattle.law_frame.specs.pg_run.pg_store.Store.{is_full, is_held, is_before_clock_end}
+use Rattle.law_frame.specs.pg_run.pg_store.Together.{HoldsAsBefore, MayBegin}
+use Rattle.law_frame.proofs.pg_run.pg_store.Aiming.{gone_as_before}
+use Rattle.law_frame.proofs.pg_run.pg_store.Given.{births_as_before}
+use Rattle.law_frame.proofs.pg_run.pg_store.Pairs.{birth_as_before}
+use Rattle.law_frame.proofs.pg_run.pg_store.Wishing.{wish_births}
+use Rattle.law_frame.specs.pg_run.pg_pieces.Done.{Done, idle}
+use Rattle.law_frame.proofs.pg_run.pg_graph.LeaveOk.{found_keyed}
+use Rattle.law_frame.specs.pg_run.pg_intentions.Needed.{IsToFill}
+use Rattle.law_frame.proofs.pg_run.pg_intent.Found.{ended_found}
+use Rattle.law_frame.proofs.pg_run.pg_intent.SameKey.{is_same_key-refl}
+use Rattle.law_frame.proofs.pg_run.pg_intentions.Needs.{needed_comes, what_is_needed}
+use Rattle.law_frame.specs.pg_run.pg_checks.declared.checks.NewName.{NewName}
+use Rattle.law_frame.specs.pg_run.pg_checks.Answer.{answer, answered}
+use Rattle.law_frame.specs.pg_run.pg_checks.Asking.{fresh_wish, holder, standing, wish_by}
+use Rattle.law_frame.specs.pg_run.pg_checks.Checks.{new_name}
+use Rattle.law_frame.specs.pg_run.pg_calls.Calls.{do_call}
+use Rattle.law_frame.specs.pg_run.pg_calls.Dropping.{leave_of}
+use Rattle.law_frame.specs.pg_run.pg_calls.Forgetting.{bare_entry, dead_at, is_wanted, root_place, unfilled, unwished}
+use Rattle.law_frame.specs.pg_run.pg_calls.Making.{drawn, make_version, version_of, with_version}
+use Rattle.law_frame.specs.pg_run.pg_calls.Naming.{begun, dead_place, next_id, place_in, with_first_version, with_id, with_thing}
+use Rattle.law_frame.proofs.pg_run.pg_calls.InTime.{name_in_time}
+use Rattle.law_frame.proofs.pg_run.pg_calls.Walked.{file_found, full_own}
+use Rattle.law_frame.specs.pg_run.pg_server.Local.{done_of}
+use Rattle.law_frame.specs.pg_run.theory_flood_pieces.Laws.{AreAlike}
 use Rattle.law_frame.proofs.Called.{call_keeps}
 use Rattle.law_frame.proofs.KeepsCalls.{Drops, IsLost, IsNew, KeepsCalls, MakesPlace, making}
 use Rattle.law_order.specs.Saying.{IsClosed, IsIntended, IsSaidOwn, Saying}

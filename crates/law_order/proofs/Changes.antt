@@ -3,16 +3,16 @@ use Rattle.std.proofs.Common.{◌≡◌, Bool, true, false, Option, None, Some, 
 use Rattle.std.specs.List.Sorted.{IsStrictlySortedBy}
 use Rattle.std.specs.Map.{keys_of}
 use Rattle.std.proofs.lemmas.Option.{same_Some}
-use Rattle.pg_run.specs.pg_base.declared.id.FileId.{FileId}
-use Rattle.pg_run.specs.pg_base.Id.{file_cmp, is_same_file}
-use Rattle.pg_run.proofs.pg_base.Orders.{is_same_file-true}
-use Rattle.pg_run.specs.pg_entries.declared.entry.Entry.{Entry}
-use Rattle.pg_run.specs.pg_names.declared.attributes.Attributes.{Attributes}
-use Rattle.pg_run.specs.pg_names.Names.{InodeValue, NamesValue, cell_at, known, own_at, set_entry, set_own, update, with_entry, with_own}
-use Rattle.pg_run.proofs.pg_names.Lookups.{entry_other_child, entry_other_dir, entry_same, known_absent, own_back, own_other, own_same}
-use Rattle.pg_run.specs.pg_house.Facts.{AreOrdered, IsHeld}
-use Rattle.pg_run.proofs.pg_house.Ordered.{changed_ordered}
-use Rattle.pg_run.proofs.theory_flood_pieces.Growth.{OneOwn}
+use Rattle.law_frame.specs.pg_run.pg_base.declared.id.FileId.{FileId}
+use Rattle.law_frame.specs.pg_run.pg_base.Id.{file_cmp, is_same_file}
+use Rattle.law_frame.proofs.pg_run.pg_base.Orders.{is_same_file-true}
+use Rattle.law_frame.specs.pg_run.pg_entries.declared.entry.Entry.{Entry}
+use Rattle.law_frame.specs.pg_run.pg_names.declared.attributes.Attributes.{Attributes}
+use Rattle.law_frame.specs.pg_run.pg_names.Names.{InodeValue, NamesValue, cell_at, known, own_at, set_entry, set_own, update, with_entry, with_own}
+use Rattle.law_frame.proofs.pg_run.pg_names.Lookups.{entry_other_child, entry_other_dir, entry_same, known_absent, own_back, own_other, own_same}
+use Rattle.law_frame.specs.pg_run.pg_house.Facts.{AreOrdered, IsHeld}
+use Rattle.law_frame.proofs.pg_run.pg_house.Ordered.{changed_ordered}
+use Rattle.law_frame.proofs.pg_run.theory_flood_pieces.Growth.{OneOwn}
 
 -- ---- the own place and flags of one thing change
 

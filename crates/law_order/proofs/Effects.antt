@@ -3,36 +3,36 @@ use Rattle.std.proofs.Common.{ℕ, ◌≡◌, ◌≤◌, ◌%◌, ◌/◌, ◌==
 use Rattle.std.specs.List.{slice_get}
 use Rattle.std.proofs.lemmas.Bool.{and_parts, leb-true}
 use Rattle.std.proofs.lemmas.List.Elements.{All-nil}
-use Rattle.pg_run.specs.pg_base.declared.id.FileId.{FileId}
-use Rattle.pg_run.specs.pg_edges.declared.edge.Edge.{Edge}
-use Rattle.pg_run.proofs.pg_intent.Above.{not_equal}
-use Rattle.pg_run.specs.pg_msg.declared.message.Message.TheVariants as message
-use Rattle.pg_run.specs.pg_msg.declared.message.Sent.{Sent}
-use Rattle.pg_run.specs.pg_msg.declared.work.Slot.{Slot}
-use Rattle.pg_run.specs.pg_msg.declared.work.Work.{Work}
-use Rattle.pg_run.specs.pg_msg.Numbers.{is_in_range}
-use Rattle.pg_run.specs.pg_msg.Work.{new_work}
-use Rattle.pg_run.specs.pg_announced.Announced.{released}
-use Rattle.pg_run.specs.pg_call.declared.reply.Reply.{Reply}
-use Rattle.pg_run.specs.pg_store.declared.store.Store.{Store}
-use Rattle.pg_run.specs.pg_store.Births.{birth_of}
-use Rattle.pg_run.specs.pg_store.Seen.{server_of, view_of}
-use Rattle.pg_run.specs.pg_store.Servers.{is_live_other}
-use Rattle.pg_run.specs.pg_store.Store.{is_before_clock_end}
-use Rattle.pg_run.proofs.pg_store.Aiming.{unwished_as_before}
-use Rattle.pg_run.proofs.pg_store.Given.{births_as_before}
-use Rattle.pg_run.specs.pg_pieces.Accepting.{ends_to}
-use Rattle.pg_run.specs.pg_pieces.Done.{Done, idle}
-use Rattle.pg_run.specs.pg_graph.Walks.{edges_of, most_hops, walk_along, walk_from, walk_of, walk_of_tick, with_few_edges}
-use Rattle.pg_run.specs.pg_cells.Ticks.{tick}
-use Rattle.pg_run.specs.pg_intentions.Requests.{ask_all}
-use Rattle.pg_run.specs.pg_calls.Calls.{do_call}
-use Rattle.pg_run.proofs.pg_calls.Late.{late_does_nothing}
-use Rattle.pg_run.specs.pg_server.declared.input.Input.{Input}
-use Rattle.pg_run.specs.pg_server.declared.input.Input.TheVariants as input
-use Rattle.pg_run.specs.pg_server.Local.{Effect, closed, done_of, effect, finished, first_effect, is_heard, receive, reply_to, takes_effect, ticked, without_sources, without_volatile}
-use Rattle.pg_run.specs.theory_flood_pieces.Whole.{IsOther}
-use Rattle.pg_run.proofs.theory_flood_pieces.Choices.{chosen, decided}
+use Rattle.law_frame.specs.pg_run.pg_base.declared.id.FileId.{FileId}
+use Rattle.law_frame.specs.pg_run.pg_edges.declared.edge.Edge.{Edge}
+use Rattle.law_frame.proofs.pg_run.pg_intent.Above.{not_equal}
+use Rattle.law_frame.specs.pg_run.pg_msg.declared.message.Message.TheVariants as message
+use Rattle.law_frame.specs.pg_run.pg_msg.declared.message.Sent.{Sent}
+use Rattle.law_frame.specs.pg_run.pg_msg.declared.work.Slot.{Slot}
+use Rattle.law_frame.specs.pg_run.pg_msg.declared.work.Work.{Work}
+use Rattle.law_frame.specs.pg_run.pg_msg.Numbers.{is_in_range}
+use Rattle.law_frame.specs.pg_run.pg_msg.Work.{new_work}
+use Rattle.law_frame.specs.pg_run.pg_announced.Announced.{released}
+use Rattle.law_frame.specs.pg_run.pg_call.declared.reply.Reply.{Reply}
+use Rattle.law_frame.specs.pg_run.pg_store.declared.store.Store.{Store}
+use Rattle.law_frame.specs.pg_run.pg_store.Births.{birth_of}
+use Rattle.law_frame.specs.pg_run.pg_store.Seen.{server_of, view_of}
+use Rattle.law_frame.specs.pg_run.pg_store.Servers.{is_live_other}
+use Rattle.law_frame.specs.pg_run.pg_store.Store.{is_before_clock_end}
+use Rattle.law_frame.proofs.pg_run.pg_store.Aiming.{unwished_as_before}
+use Rattle.law_frame.proofs.pg_run.pg_store.Given.{births_as_before}
+use Rattle.law_frame.specs.pg_run.pg_pieces.Accepting.{ends_to}
+use Rattle.law_frame.specs.pg_run.pg_pieces.Done.{Done, idle}
+use Rattle.law_frame.specs.pg_run.pg_graph.Walks.{edges_of, most_hops, walk_along, walk_from, walk_of, walk_of_tick, with_few_edges}
+use Rattle.law_frame.specs.pg_run.pg_cells.Ticks.{tick}
+use Rattle.law_frame.specs.pg_run.pg_intentions.Requests.{ask_all}
+use Rattle.law_frame.specs.pg_run.pg_calls.Calls.{do_call}
+use Rattle.law_frame.proofs.pg_run.pg_calls.Late.{late_does_nothing}
+use Rattle.law_frame.specs.pg_run.pg_server.declared.input.Input.{Input}
+use Rattle.law_frame.specs.pg_run.pg_server.declared.input.Input.TheVariants as input
+use Rattle.law_frame.specs.pg_run.pg_server.Local.{Effect, closed, done_of, effect, finished, first_effect, is_heard, receive, reply_to, takes_effect, ticked, without_sources, without_volatile}
+use Rattle.law_frame.specs.pg_run.theory_flood_pieces.Whole.{IsOther}
+use Rattle.law_frame.proofs.pg_run.theory_flood_pieces.Choices.{chosen, decided}
 use Rattle.law_order.specs.Saying.{IsClosed, IsSaidLeft, IsSaidOfMessage, Saying}
 use Rattle.law_order.proofs.Bodies.{sound_noted}
 use Rattle.law_order.proofs.Called.{GivesNewIds, so_called}

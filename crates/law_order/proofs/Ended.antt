@@ -2,20 +2,20 @@
 -- touched is sent.
 use Rattle.std.proofs.Common.{ℕ, ◌++◌, sym, subst}
 use Rattle.std.proofs.lemmas.List.Elements.{All-append}
-use Rattle.pg_run.specs.pg_call.declared.reply.Reply.{Reply}
-use Rattle.pg_run.specs.pg_msg.declared.message.Sent.{Sent}
-use Rattle.pg_run.specs.pg_msg.declared.work.Work.{Work}
+use Rattle.law_frame.specs.pg_run.pg_call.declared.reply.Reply.{Reply}
+use Rattle.law_frame.specs.pg_run.pg_msg.declared.message.Sent.{Sent}
+use Rattle.law_frame.specs.pg_run.pg_msg.declared.work.Work.{Work}
 use Rattle.std.specs.Prelude.{Option}
-use Rattle.pg_run.specs.pg_store.declared.store.Store.{Store}
-use Rattle.pg_run.specs.pg_pieces.Done.{Done, idle}
-use Rattle.pg_run.specs.pg_cells.Finish.{finish}
-use Rattle.pg_run.specs.pg_cells.Settling.{settle}
-use Rattle.pg_run.proofs.pg_cells.Settled.{settle_gives}
-use Rattle.pg_run.specs.pg_intentions.Beginning.{begin_end}
-use Rattle.pg_run.specs.pg_intentions.Requests.{ask_begun}
-use Rattle.pg_run.proofs.pg_intentions.Idle.{FillsFit, fills_fit}
-use Rattle.pg_run.proofs.pg_intentions.Steady.{begin_end_stays}
-use Rattle.pg_run.specs.pg_server.Local.{Effect, closed, finished}
+use Rattle.law_frame.specs.pg_run.pg_store.declared.store.Store.{Store}
+use Rattle.law_frame.specs.pg_run.pg_pieces.Done.{Done, idle}
+use Rattle.law_frame.specs.pg_run.pg_cells.Finish.{finish}
+use Rattle.law_frame.specs.pg_run.pg_cells.Settling.{settle}
+use Rattle.law_frame.proofs.pg_run.pg_cells.Settled.{settle_gives}
+use Rattle.law_frame.specs.pg_run.pg_intentions.Beginning.{begin_end}
+use Rattle.law_frame.specs.pg_run.pg_intentions.Requests.{ask_begun}
+use Rattle.law_frame.proofs.pg_run.pg_intentions.Idle.{FillsFit, fills_fit}
+use Rattle.law_frame.proofs.pg_run.pg_intentions.Steady.{begin_end_stays}
+use Rattle.law_frame.specs.pg_run.pg_server.Local.{Effect, closed, finished}
 use Rattle.law_order.specs.Saying.{IsClosed, IsSaidOfMessage, Saying}
 use Rattle.law_order.specs.Sound.{IsSettled}
 use Rattle.law_order.proofs.BirthsStay.{given_end}

@@ -1,24 +1,24 @@
 -- A view is entered: the server is sound behind it, and what it asks others for is said.
 use Rattle.std.proofs.Common.{ℕ, ◌≡◌, List, [], ◌∷◌, Option, None, Some, refl, sym, subst}
 use Rattle.std.specs.Map.{keys_of}
-use Rattle.pg_run.specs.pg_base.declared.id.FileId.{FileId}
-use Rattle.pg_run.specs.pg_edges.declared.edge.Edge.{Edge}
-use Rattle.pg_run.specs.pg_intent.Intents.{HaveOwnKeys, keys_to}
-use Rattle.pg_run.proofs.pg_intent.Turned.{own-turned}
-use Rattle.pg_run.specs.pg_msg.declared.message.Message.TheVariants as message
-use Rattle.pg_run.specs.pg_msg.declared.work.Work.{Work}
-use Rattle.pg_run.specs.pg_names.Names.{NamesValue}
-use Rattle.pg_run.specs.pg_store.declared.store.Store.{Store}
-use Rattle.pg_run.specs.pg_store.Servers.{next_target}
-use Rattle.pg_run.specs.pg_store.Views.{cut_each, enter, with_removed}
-use Rattle.pg_run.proofs.pg_store.Entered.{cuts_intents, enter_names}
-use Rattle.pg_run.proofs.pg_store.Entering.{enter_births}
-use Rattle.pg_run.specs.pg_pieces.Accepting.{ends_to}
-use Rattle.pg_run.specs.pg_pieces.Done.{Done, idle}
-use Rattle.pg_run.specs.pg_intentions.Inviting.{invite_along, invite_each, invite_of, invites, loose_edge}
-use Rattle.pg_run.specs.pg_calls.GivingUp.{doubt_all, enter_view}
-use Rattle.pg_run.proofs.theory_flood_pieces.Choices.{chosen}
-use Rattle.pg_run.proofs.theory_flood_pieces.Views.{whole_enter}
+use Rattle.law_frame.specs.pg_run.pg_base.declared.id.FileId.{FileId}
+use Rattle.law_frame.specs.pg_run.pg_edges.declared.edge.Edge.{Edge}
+use Rattle.law_frame.specs.pg_run.pg_intent.Intents.{HaveOwnKeys, keys_to}
+use Rattle.law_frame.proofs.pg_run.pg_intent.Turned.{own-turned}
+use Rattle.law_frame.specs.pg_run.pg_msg.declared.message.Message.TheVariants as message
+use Rattle.law_frame.specs.pg_run.pg_msg.declared.work.Work.{Work}
+use Rattle.law_frame.specs.pg_run.pg_names.Names.{NamesValue}
+use Rattle.law_frame.specs.pg_run.pg_store.declared.store.Store.{Store}
+use Rattle.law_frame.specs.pg_run.pg_store.Servers.{next_target}
+use Rattle.law_frame.specs.pg_run.pg_store.Views.{cut_each, enter, with_removed}
+use Rattle.law_frame.proofs.pg_run.pg_store.Entered.{cuts_intents, enter_names}
+use Rattle.law_frame.proofs.pg_run.pg_store.Entering.{enter_births}
+use Rattle.law_frame.specs.pg_run.pg_pieces.Accepting.{ends_to}
+use Rattle.law_frame.specs.pg_run.pg_pieces.Done.{Done, idle}
+use Rattle.law_frame.specs.pg_run.pg_intentions.Inviting.{invite_along, invite_each, invite_of, invites, loose_edge}
+use Rattle.law_frame.specs.pg_run.pg_calls.GivingUp.{doubt_all, enter_view}
+use Rattle.law_frame.proofs.pg_run.theory_flood_pieces.Choices.{chosen}
+use Rattle.law_frame.proofs.pg_run.theory_flood_pieces.Views.{whole_enter}
 use Rattle.law_order.specs.Saying.{AreIntended, IsClosed, IsSaidOf, Saying}
 use Rattle.law_order.specs.Sound.{AreTidy}
 use Rattle.law_order.proofs.Intended.{turns_said}

@@ -6,19 +6,19 @@ use Rattle.std.specs.Map.{keys_of}
 use Rattle.std.proofs.lemmas.Bool.{false≢true}
 use Rattle.std.proofs.lemmas.List.Elements.{All-nil}
 use Rattle.std.proofs.lemmas.Option.{none-some, same_Some}
-use Rattle.pg_run.specs.pg_base.declared.id.FileId.{FileId}
-use Rattle.pg_run.specs.pg_base.Id.{file_cmp, is_same_file}
-use Rattle.pg_run.proofs.pg_base.Entries.{IsStrictlySortedBy-insert_entry}
-use Rattle.pg_run.proofs.pg_base.Orders.{file_total, is_same_file-true}
-use Rattle.pg_run.specs.pg_intent.declared.intent.Intent.{Intent}
-use Rattle.pg_run.specs.pg_intent.Intents.{HaveOwnKeys}
-use Rattle.pg_run.specs.pg_names.declared.attributes.Attributes.{Attributes}
-use Rattle.pg_run.specs.pg_names.Names.{InodeValue, own_at, own_of}
-use Rattle.pg_run.specs.pg_register.Place.{root, root_place}
-use Rattle.pg_run.specs.pg_store.Start.{first_flag, first_flags, first_names, root_own}
-use Rattle.pg_run.specs.pg_store.Store.{new_store}
-use Rattle.pg_run.proofs.pg_store.Wishing.{start_births}
-use Rattle.pg_run.proofs.theory_flood_pieces.Start.{Root, first_sorted, no_entry, start_whole}
+use Rattle.law_frame.specs.pg_run.pg_base.declared.id.FileId.{FileId}
+use Rattle.law_frame.specs.pg_run.pg_base.Id.{file_cmp, is_same_file}
+use Rattle.law_frame.proofs.pg_run.pg_base.Entries.{IsStrictlySortedBy-insert_entry}
+use Rattle.law_frame.proofs.pg_run.pg_base.Orders.{file_total, is_same_file-true}
+use Rattle.law_frame.specs.pg_run.pg_intent.declared.intent.Intent.{Intent}
+use Rattle.law_frame.specs.pg_run.pg_intent.Intents.{HaveOwnKeys}
+use Rattle.law_frame.specs.pg_run.pg_names.declared.attributes.Attributes.{Attributes}
+use Rattle.law_frame.specs.pg_run.pg_names.Names.{InodeValue, own_at, own_of}
+use Rattle.law_frame.specs.pg_run.pg_register.Place.{root, root_place}
+use Rattle.law_frame.specs.pg_run.pg_store.Start.{first_flag, first_flags, first_names, root_own}
+use Rattle.law_frame.specs.pg_run.pg_store.Store.{new_store}
+use Rattle.law_frame.proofs.pg_run.pg_store.Wishing.{start_births}
+use Rattle.law_frame.proofs.pg_run.theory_flood_pieces.Start.{Root, first_sorted, no_entry, start_whole}
 use Rattle.law_order.specs.Named.{IsOfServer, IsWell, naming}
 use Rattle.law_order.specs.Saying.{IsIntended, IsSaidOwn}
 use Rattle.law_order.specs.Sound.{AreTidy}

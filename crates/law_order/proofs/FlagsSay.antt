@@ -3,9 +3,9 @@ use Rattle.std.proofs.Common.{List, [], ◌∷◌, Less, Equal, Greater, All}
 use Rattle.std.specs.declared.cmp.Ordering.{Ordering}
 use Rattle.std.specs.Ordering.{match_ordering, nat_cmp}
 use Rattle.std.proofs.lemmas.List.Elements.{All-cons, All-head, All-nil, All-tail}
-use Rattle.pg_run.specs.pg_register.declared.flag.Flag.{Flag}
-use Rattle.pg_run.specs.pg_register.Flag.{flag_of, is_new, join_flag, join_flags, put_flag}
-use Rattle.pg_run.proofs.theory_flood_pieces.Choices.{chosen}
+use Rattle.law_frame.specs.pg_run.pg_register.declared.flag.Flag.{Flag}
+use Rattle.law_frame.specs.pg_run.pg_register.Flag.{flag_of, is_new, join_flag, join_flags, put_flag}
+use Rattle.law_frame.proofs.pg_run.theory_flood_pieces.Choices.{chosen}
 
 module _ (P : Flag → Type 0) where
   put_by : (f h : Flag) (hs : List Flag) (o : Ordering) → P f → All P (h ∷ hs) → All P (put_flag hs f)

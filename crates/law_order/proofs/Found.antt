@@ -3,37 +3,37 @@
 use Rattle.std.proofs.Common.{ℕ, ◌≡◌, ◌≢◌, not, length, Bool, true, false, if◌then◌else◌, List, Option, None, Some, Ok, All, refl, sym, ap, subst, ◌∙◌}
 use Rattle.std.proofs.lemmas.Bool.{false≢true}
 use Rattle.std.proofs.lemmas.List.Elements.{All-weaker}
-use Rattle.pg_run.specs.pg_base.declared.id.FileId.{FileId}
-use Rattle.pg_run.specs.pg_path.Tested.{is_client_name}
-use Rattle.pg_run.specs.pg_path.Name.{IsNameByte}
-use Rattle.pg_run.proofs.pg_path.Tested.{client_name_is}
-use Rattle.pg_run.specs.pg_call.declared.call.Target.{Target}
-use Rattle.pg_run.specs.pg_call.declared.call.Target.TheVariants as target
-use Rattle.pg_run.specs.pg_call.declared.refusal.Refusal.{Refusal}
-use Rattle.pg_run.specs.pg_call.declared.refusal.Refusal.TheVariants.{BadPath, ClockEnd, DirFull, Exists, Held, Loop, Root}
-use Rattle.pg_run.specs.pg_register.Place.{root}
-use Rattle.pg_run.specs.pg_names.Names.{NamesValue, is_dir, is_full, known}
-use Rattle.pg_run.specs.pg_lookup.Chain.{is_above}
-use Rattle.pg_run.specs.pg_lookup.declared.paths.LookupError.TheVariants as stop
-use Rattle.pg_run.specs.pg_lookup.declared.paths.Way.TheVariants as way
-use Rattle.pg_run.specs.pg_lookup.Walk.{and_then, is_dir_full, reach, reach_parent, reached, refused, shown_by}
-use Rattle.pg_run.specs.pg_house.Facts.{IsHeld}
-use Rattle.pg_run.specs.pg_house.Returning.{is_root}
-use Rattle.pg_run.specs.pg_store.declared.store.Store.{Store}
-use Rattle.pg_run.specs.pg_store.Store.{is_before_clock_end}
-use Rattle.pg_run.specs.pg_store.Store.{is_full as is_full_at}
-use Rattle.pg_run.specs.pg_pieces.Parting.{stays_for}
-use Rattle.pg_run.specs.pg_checks.declared.checks.Move.{Move}
-use Rattle.pg_run.specs.pg_checks.declared.checks.NewName.{NewName}
-use Rattle.pg_run.specs.pg_checks.declared.paths.Paths.{Paths}
-use Rattle.pg_run.specs.pg_checks.Answer.{unless}
-use Rattle.pg_run.specs.pg_checks.Checks.{dir_at, empty_dir_at, first_child, in_time, move_along, move_of, move_to, new_name, new_name_in, target_at, unless_child, unless_shown, when_free}
-use Rattle.pg_run.specs.pg_calls.Demoting.{unless_root}
-use Rattle.pg_run.specs.pg_calls.Dropping.{dropped_at, refused_for, unless_kept}
-use Rattle.pg_run.specs.pg_calls.Forgetting.{lost_at, unless_full}
-use Rattle.pg_run.specs.pg_checks.Paths.{is_none, last_of, new_path_of, path_of, paths_of, with_new_name}
-use Rattle.pg_run.proofs.pg_calls.Checked.{behind, no_ok, same_ok, unless_ok}
-use Rattle.pg_run.proofs.pg_calls.Walked.{full_own, parent_found, reach_ok, reached_ok, thing_found}
+use Rattle.law_frame.specs.pg_run.pg_base.declared.id.FileId.{FileId}
+use Rattle.law_frame.specs.pg_run.pg_path.Tested.{is_client_name}
+use Rattle.law_frame.specs.pg_run.pg_path.Name.{IsNameByte}
+use Rattle.law_frame.proofs.pg_run.pg_path.Tested.{client_name_is}
+use Rattle.law_frame.specs.pg_run.pg_call.declared.call.Target.{Target}
+use Rattle.law_frame.specs.pg_run.pg_call.declared.call.Target.TheVariants as target
+use Rattle.law_frame.specs.pg_run.pg_call.declared.refusal.Refusal.{Refusal}
+use Rattle.law_frame.specs.pg_run.pg_call.declared.refusal.Refusal.TheVariants.{BadPath, ClockEnd, DirFull, Exists, Held, Loop, Root}
+use Rattle.law_frame.specs.pg_run.pg_register.Place.{root}
+use Rattle.law_frame.specs.pg_run.pg_names.Names.{NamesValue, is_dir, is_full, known}
+use Rattle.law_frame.specs.pg_run.pg_lookup.Chain.{is_above}
+use Rattle.law_frame.specs.pg_run.pg_lookup.declared.paths.LookupError.TheVariants as stop
+use Rattle.law_frame.specs.pg_run.pg_lookup.declared.paths.Way.TheVariants as way
+use Rattle.law_frame.specs.pg_run.pg_lookup.Walk.{and_then, is_dir_full, reach, reach_parent, reached, refused, shown_by}
+use Rattle.law_frame.specs.pg_run.pg_house.Facts.{IsHeld}
+use Rattle.law_frame.specs.pg_run.pg_house.Returning.{is_root}
+use Rattle.law_frame.specs.pg_run.pg_store.declared.store.Store.{Store}
+use Rattle.law_frame.specs.pg_run.pg_store.Store.{is_before_clock_end}
+use Rattle.law_frame.specs.pg_run.pg_store.Store.{is_full as is_full_at}
+use Rattle.law_frame.specs.pg_run.pg_pieces.Parting.{stays_for}
+use Rattle.law_frame.specs.pg_run.pg_checks.declared.checks.Move.{Move}
+use Rattle.law_frame.specs.pg_run.pg_checks.declared.checks.NewName.{NewName}
+use Rattle.law_frame.specs.pg_run.pg_checks.declared.paths.Paths.{Paths}
+use Rattle.law_frame.specs.pg_run.pg_checks.Answer.{unless}
+use Rattle.law_frame.specs.pg_run.pg_checks.Checks.{dir_at, empty_dir_at, first_child, in_time, move_along, move_of, move_to, new_name, new_name_in, target_at, unless_child, unless_shown, when_free}
+use Rattle.law_frame.specs.pg_run.pg_calls.Demoting.{unless_root}
+use Rattle.law_frame.specs.pg_run.pg_calls.Dropping.{dropped_at, refused_for, unless_kept}
+use Rattle.law_frame.specs.pg_run.pg_calls.Forgetting.{lost_at, unless_full}
+use Rattle.law_frame.specs.pg_run.pg_checks.Paths.{is_none, last_of, new_path_of, path_of, paths_of, with_new_name}
+use Rattle.law_frame.proofs.pg_run.pg_calls.Checked.{behind, no_ok, same_ok, unless_ok}
+use Rattle.law_frame.proofs.pg_run.pg_calls.Walked.{full_own, parent_found, reach_ok, reached_ok, thing_found}
 
 -- ---- things
 

@@ -1,16 +1,16 @@
 -- A replica goes: what is left is in order, all of it is said, and the server is sound.
 use Rattle.std.proofs.Common.{ℕ, ◌≡◌, not, false, ap, ◌∙◌}
 use Rattle.std.specs.BTreeMap.{is_at}
-use Rattle.pg_run.specs.pg_base.declared.id.FileId.{FileId}
-use Rattle.pg_run.specs.pg_base.Id.{file_cmp, is_same_file}
-use Rattle.pg_run.specs.pg_names.Names.{NamesValue, is_full_of, let_go as let_go_names}
-use Rattle.pg_run.proofs.pg_names.Gone.{gone_cell, gone_other, gone_own, gone_stayed}
-use Rattle.pg_run.specs.pg_register.Place.{root}
-use Rattle.pg_run.proofs.pg_replica.Merging.{sorted_filter}
-use Rattle.pg_run.specs.pg_store.declared.store.Store.{Store}
-use Rattle.pg_run.specs.pg_store.Beginning.{let_go}
-use Rattle.pg_run.proofs.pg_store.Going.{go_births}
-use Rattle.pg_run.proofs.theory_flood_pieces.Leaving.{whole_gone}
+use Rattle.law_frame.specs.pg_run.pg_base.declared.id.FileId.{FileId}
+use Rattle.law_frame.specs.pg_run.pg_base.Id.{file_cmp, is_same_file}
+use Rattle.law_frame.specs.pg_run.pg_names.Names.{NamesValue, is_full_of, let_go as let_go_names}
+use Rattle.law_frame.proofs.pg_run.pg_names.Gone.{gone_cell, gone_other, gone_own, gone_stayed}
+use Rattle.law_frame.specs.pg_run.pg_register.Place.{root}
+use Rattle.law_frame.proofs.pg_run.pg_replica.Merging.{sorted_filter}
+use Rattle.law_frame.specs.pg_run.pg_store.declared.store.Store.{Store}
+use Rattle.law_frame.specs.pg_run.pg_store.Beginning.{let_go}
+use Rattle.law_frame.proofs.pg_run.pg_store.Going.{go_births}
+use Rattle.law_frame.proofs.pg_run.theory_flood_pieces.Leaving.{whole_gone}
 use Rattle.law_order.specs.Saying.{IsSaidOf, Saying}
 use Rattle.law_order.specs.Sound.{AreTidy}
 use Rattle.law_order.proofs.Sounding.{Sound}

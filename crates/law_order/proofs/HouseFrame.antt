@@ -1,27 +1,27 @@
 -- The house rules remove no server, and leave who sent the message of the event, and what is sent
 -- in it.
 use Rattle.std.proofs.Common.{ℕ, ◌≡◌, ◌&&◌, Bool, cond, not, List, [], ◌∷◌, length, Option, None, Some, refl, ◌∙◌}
-use Rattle.pg_run.specs.pg_base.declared.id.FileId.{FileId}
-use Rattle.pg_run.specs.pg_edges.declared.key.Key.TheVariants as key
-use Rattle.pg_run.specs.pg_register.declared.flag.Flag.{Flag}
-use Rattle.pg_run.specs.pg_register.declared.place.Place.{Place}
-use Rattle.pg_run.specs.pg_register.Flag.{flag_of}
-use Rattle.pg_run.specs.pg_register.Place.{root, tilde_name}
-use Rattle.pg_run.specs.pg_msg.declared.update.Update.TheVariants as update
-use Rattle.pg_run.specs.pg_msg.declared.work.Work.{Work}
-use Rattle.pg_run.specs.pg_msg.Work.{with_left, with_made, with_touched}
-use Rattle.pg_run.specs.pg_names.declared.attributes.Attributes.{Attributes}
-use Rattle.pg_run.specs.pg_names.Names.{directories, own_at, with_entry, with_last, with_own}
-use Rattle.pg_run.specs.pg_names.Same.{is_same_own, is_same_place}
-use Rattle.pg_run.proofs.pg_names.Lookups.{update_frame}
-use Rattle.pg_run.specs.pg_house.Cycles.{break_first, first_moving, moved}
-use Rattle.pg_run.specs.pg_house.House.{house, movable}
-use Rattle.pg_run.specs.pg_house.Passing.{cell_for, flags_touched, gets, given, greatest, is_held_back, is_other_flag, offered, own_taken, pass, pass_all, pass_own, spread, taking, took}
-use Rattle.pg_run.specs.pg_house.Placing.{drawn, live_place, made_at, own_with, place_at, placed}
-use Rattle.pg_run.specs.pg_house.Returning.{first_returning, is_root, return_first, returned}
-use Rattle.pg_run.specs.pg_house.Work.{State, note_left, place_touched, touched}
-use Rattle.pg_run.proofs.pg_house.Repeating.{repeated_keeps}
-use Rattle.pg_run.proofs.theory_flood_pieces.Choices.{chosen}
+use Rattle.law_frame.specs.pg_run.pg_base.declared.id.FileId.{FileId}
+use Rattle.law_frame.specs.pg_run.pg_edges.declared.key.Key.TheVariants as key
+use Rattle.law_frame.specs.pg_run.pg_register.declared.flag.Flag.{Flag}
+use Rattle.law_frame.specs.pg_run.pg_register.declared.place.Place.{Place}
+use Rattle.law_frame.specs.pg_run.pg_register.Flag.{flag_of}
+use Rattle.law_frame.specs.pg_run.pg_register.Place.{root, tilde_name}
+use Rattle.law_frame.specs.pg_run.pg_msg.declared.update.Update.TheVariants as update
+use Rattle.law_frame.specs.pg_run.pg_msg.declared.work.Work.{Work}
+use Rattle.law_frame.specs.pg_run.pg_msg.Work.{with_left, with_made, with_touched}
+use Rattle.law_frame.specs.pg_run.pg_names.declared.attributes.Attributes.{Attributes}
+use Rattle.law_frame.specs.pg_run.pg_names.Names.{directories, own_at, with_entry, with_last, with_own}
+use Rattle.law_frame.specs.pg_run.pg_names.Same.{is_same_own, is_same_place}
+use Rattle.law_frame.proofs.pg_run.pg_names.Lookups.{update_frame}
+use Rattle.law_frame.specs.pg_run.pg_house.Cycles.{break_first, first_moving, moved}
+use Rattle.law_frame.specs.pg_run.pg_house.House.{house, movable}
+use Rattle.law_frame.specs.pg_run.pg_house.Passing.{cell_for, flags_touched, gets, given, greatest, is_held_back, is_other_flag, offered, own_taken, pass, pass_all, pass_own, spread, taking, took}
+use Rattle.law_frame.specs.pg_run.pg_house.Placing.{drawn, live_place, made_at, own_with, place_at, placed}
+use Rattle.law_frame.specs.pg_run.pg_house.Returning.{first_returning, is_root, return_first, returned}
+use Rattle.law_frame.specs.pg_run.pg_house.Work.{State, note_left, place_touched, touched}
+use Rattle.law_frame.proofs.pg_run.pg_house.Repeating.{repeated_keeps}
+use Rattle.law_frame.proofs.pg_run.theory_flood_pieces.Choices.{chosen}
 
 -- ---- works
 

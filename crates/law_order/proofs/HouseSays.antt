@@ -4,38 +4,38 @@ use Rattle.std.specs.Map.{keys_of}
 use Rattle.std.proofs.lemmas.List.Elements.{All-append, All-cons, All-nil}
 use Rattle.std.proofs.lemmas.Option.{none-some}
 use Rattle.std.proofs.lemmas.Bool.{and_parts, not-true, or_left, or_right}
-use Rattle.pg_run.specs.pg_base.declared.id.FileId.{FileId}
-use Rattle.pg_run.specs.pg_base.Id.{is_same_file}
-use Rattle.pg_run.specs.pg_base.Stamp.{is_before}
-use Rattle.pg_run.proofs.pg_base.Orders.{is_same_file-refl}
-use Rattle.pg_run.specs.pg_register.declared.flag.Flag.{Flag}
-use Rattle.pg_run.specs.pg_register.declared.place.Place.{Place}
-use Rattle.pg_run.specs.pg_register.Place.{root, tilde_name}
-use Rattle.pg_run.specs.pg_entries.declared.entry.Entry.{Entry}
-use Rattle.pg_run.specs.pg_edges.declared.key.Key.TheVariants as key
-use Rattle.pg_run.specs.pg_msg.declared.update.Update.TheVariants as update
-use Rattle.pg_run.specs.pg_msg.declared.work.Slot.{Slot}
-use Rattle.pg_run.specs.pg_msg.declared.work.Work.{Work}
-use Rattle.pg_run.specs.pg_msg.Work.{with_left, with_made, with_touched}
-use Rattle.pg_run.specs.pg_names.declared.attributes.Attributes.{Attributes}
-use Rattle.pg_run.specs.pg_names.Names.{NamesValue, cell_at, directories, known, own_at, set_entry, set_own, with_last}
-use Rattle.pg_run.specs.pg_names.Same.{is_same_own, is_same_place}
-use Rattle.pg_run.proofs.pg_names.Lookups.{entry_own, own_cell}
-use Rattle.pg_run.specs.pg_house.Cycles.{break_first, first_moving, moved}
-use Rattle.pg_run.specs.pg_house.Facts.{IsHeld, is_among}
-use Rattle.pg_run.specs.pg_house.House.{house, movable}
-use Rattle.pg_run.specs.pg_house.Passing.{cell_for, flags_touched, gets, given, greatest, is_held_back, is_other_flag, joined_with, offered, own_taken, pass, pass_all, pass_own, spread, taking, took}
-use Rattle.pg_run.specs.pg_house.Placing.{drawn, flags_of, live_place, made_at, own_with, place_at, place_of, placed}
-use Rattle.pg_run.specs.pg_house.Returning.{first_returning, is_returning, is_root, return_first, returned}
-use Rattle.pg_run.specs.pg_house.Work.{State, note_left, place_touched, touched}
-use Rattle.pg_run.proofs.pg_house.AllClimb.{IsDeep, member_deep, moving_member}
-use Rattle.pg_run.proofs.pg_house.AllReturned.{not_root, returning_by}
-use Rattle.pg_run.proofs.pg_house.Counting.{find_found, kept_dir}
-use Rattle.pg_run.proofs.pg_house.NoCycles.{inner_parts, some_dirs}
-use Rattle.pg_run.proofs.pg_house.Repeating.{repeated_keeps}
-use Rattle.pg_run.proofs.theory_flood_pieces.Choices.{chosen, decided}
-use Rattle.pg_run.specs.pg_register.Flag.{IsByServer, flag_of}
-use Rattle.pg_run.proofs.pg_register.ByServer.{IsByServer-join_flags, IsByServer-nil}
+use Rattle.law_frame.specs.pg_run.pg_base.declared.id.FileId.{FileId}
+use Rattle.law_frame.specs.pg_run.pg_base.Id.{is_same_file}
+use Rattle.law_frame.specs.pg_run.pg_base.Stamp.{is_before}
+use Rattle.law_frame.proofs.pg_run.pg_base.Orders.{is_same_file-refl}
+use Rattle.law_frame.specs.pg_run.pg_register.declared.flag.Flag.{Flag}
+use Rattle.law_frame.specs.pg_run.pg_register.declared.place.Place.{Place}
+use Rattle.law_frame.specs.pg_run.pg_register.Place.{root, tilde_name}
+use Rattle.law_frame.specs.pg_run.pg_entries.declared.entry.Entry.{Entry}
+use Rattle.law_frame.specs.pg_run.pg_edges.declared.key.Key.TheVariants as key
+use Rattle.law_frame.specs.pg_run.pg_msg.declared.update.Update.TheVariants as update
+use Rattle.law_frame.specs.pg_run.pg_msg.declared.work.Slot.{Slot}
+use Rattle.law_frame.specs.pg_run.pg_msg.declared.work.Work.{Work}
+use Rattle.law_frame.specs.pg_run.pg_msg.Work.{with_left, with_made, with_touched}
+use Rattle.law_frame.specs.pg_run.pg_names.declared.attributes.Attributes.{Attributes}
+use Rattle.law_frame.specs.pg_run.pg_names.Names.{NamesValue, cell_at, directories, known, own_at, set_entry, set_own, with_last}
+use Rattle.law_frame.specs.pg_run.pg_names.Same.{is_same_own, is_same_place}
+use Rattle.law_frame.proofs.pg_run.pg_names.Lookups.{entry_own, own_cell}
+use Rattle.law_frame.specs.pg_run.pg_house.Cycles.{break_first, first_moving, moved}
+use Rattle.law_frame.specs.pg_run.pg_house.Facts.{IsHeld, is_among}
+use Rattle.law_frame.specs.pg_run.pg_house.House.{house, movable}
+use Rattle.law_frame.specs.pg_run.pg_house.Passing.{cell_for, flags_touched, gets, given, greatest, is_held_back, is_other_flag, joined_with, offered, own_taken, pass, pass_all, pass_own, spread, taking, took}
+use Rattle.law_frame.specs.pg_run.pg_house.Placing.{drawn, flags_of, live_place, made_at, own_with, place_at, place_of, placed}
+use Rattle.law_frame.specs.pg_run.pg_house.Returning.{first_returning, is_returning, is_root, return_first, returned}
+use Rattle.law_frame.specs.pg_run.pg_house.Work.{State, note_left, place_touched, touched}
+use Rattle.law_frame.proofs.pg_run.pg_house.AllClimb.{IsDeep, member_deep, moving_member}
+use Rattle.law_frame.proofs.pg_run.pg_house.AllReturned.{not_root, returning_by}
+use Rattle.law_frame.proofs.pg_run.pg_house.Counting.{find_found, kept_dir}
+use Rattle.law_frame.proofs.pg_run.pg_house.NoCycles.{inner_parts, some_dirs}
+use Rattle.law_frame.proofs.pg_run.pg_house.Repeating.{repeated_keeps}
+use Rattle.law_frame.proofs.pg_run.theory_flood_pieces.Choices.{chosen, decided}
+use Rattle.law_frame.specs.pg_run.pg_register.Flag.{IsByServer, flag_of}
+use Rattle.law_frame.proofs.pg_run.pg_register.ByServer.{IsByServer-join_flags, IsByServer-nil}
 use Rattle.law_order.specs.Saying.{IsClosed, IsSaidCell, IsSaidLeft, IsSaidOf, IsSaidOwn, Saying}
 use Rattle.law_order.proofs.Changes.{cell_written, own_written}
 use Rattle.law_order.proofs.FlagsSay.{all_joined}

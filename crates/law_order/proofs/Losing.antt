@@ -5,24 +5,24 @@ use Rattle.std.specs.List.{list_any}
 use Rattle.std.specs.Map.{keys_of}
 use Rattle.std.proofs.lemmas.Bool.{false≢true, or_cases}
 use Rattle.std.proofs.lemmas.List.Elements.{All-head, All-nil, filter_passes}
-use Rattle.pg_run.specs.pg_base.declared.id.FileId.{FileId}
-use Rattle.pg_run.specs.pg_base.Id.{is_same_file}
-use Rattle.pg_run.proofs.pg_base.Orders.{is_same_file-true}
-use Rattle.pg_run.proofs.pg_content.Members.{all_among, any_found}
-use Rattle.pg_run.specs.pg_entries.declared.entry.Entry.{Entry}
-use Rattle.pg_run.specs.pg_intent.declared.intent.Intent.{Intent}
-use Rattle.pg_run.specs.pg_intent.declared.intent.Intent.TheVariants as intent
-use Rattle.pg_run.specs.pg_house.Facts.{IsOfDirs}
-use Rattle.pg_run.specs.pg_names.declared.attributes.Attributes.{Attributes}
-use Rattle.pg_run.specs.pg_names.Names.{cell_at}
-use Rattle.pg_run.specs.pg_register.declared.place.Place.{Place}
-use Rattle.pg_run.specs.pg_register.Place.{root}
-use Rattle.pg_run.proofs.pg_register.ByServer.{IsByServer-nil}
-use Rattle.pg_run.specs.pg_store.declared.store.Store.{Store}
-use Rattle.pg_run.specs.pg_store.Births.{fill_at}
-use Rattle.pg_run.specs.pg_calls.Forgetting.{bare_entry, dead_at, dead_by, dirs_of, has_cell_for, is_patch_to, is_wanted, last_place}
-use Rattle.pg_run.proofs.pg_calls.LastPlace.{cell_there, last_is}
-use Rattle.pg_run.proofs.pg_house.Greatest.{cell_held}
+use Rattle.law_frame.specs.pg_run.pg_base.declared.id.FileId.{FileId}
+use Rattle.law_frame.specs.pg_run.pg_base.Id.{is_same_file}
+use Rattle.law_frame.proofs.pg_run.pg_base.Orders.{is_same_file-true}
+use Rattle.law_frame.proofs.pg_run.pg_content.Members.{all_among, any_found}
+use Rattle.law_frame.specs.pg_run.pg_entries.declared.entry.Entry.{Entry}
+use Rattle.law_frame.specs.pg_run.pg_intent.declared.intent.Intent.{Intent}
+use Rattle.law_frame.specs.pg_run.pg_intent.declared.intent.Intent.TheVariants as intent
+use Rattle.law_frame.specs.pg_run.pg_house.Facts.{IsOfDirs}
+use Rattle.law_frame.specs.pg_run.pg_names.declared.attributes.Attributes.{Attributes}
+use Rattle.law_frame.specs.pg_run.pg_names.Names.{cell_at}
+use Rattle.law_frame.specs.pg_run.pg_register.declared.place.Place.{Place}
+use Rattle.law_frame.specs.pg_run.pg_register.Place.{root}
+use Rattle.law_frame.proofs.pg_run.pg_register.ByServer.{IsByServer-nil}
+use Rattle.law_frame.specs.pg_run.pg_store.declared.store.Store.{Store}
+use Rattle.law_frame.specs.pg_run.pg_store.Births.{fill_at}
+use Rattle.law_frame.specs.pg_run.pg_calls.Forgetting.{bare_entry, dead_at, dead_by, dirs_of, has_cell_for, is_patch_to, is_wanted, last_place}
+use Rattle.law_frame.proofs.pg_run.pg_calls.LastPlace.{cell_there, last_is}
+use Rattle.law_frame.proofs.pg_run.pg_house.Greatest.{cell_held}
 use Rattle.law_frame.proofs.KeepsCalls.{lost_own}
 use Rattle.law_order.specs.Saying.{AreIntended, IsClosed, IsIntended, IsSaidOf, IsSaidOwn, IsSaidTold, Saying}
 

@@ -1,21 +1,21 @@
 -- What is said of all that a server knows of names is said of it again, whatever comes.
 use Rattle.std.proofs.Common.{ℕ, ◌≡◌, Bool, true, false, cond, Option, None, Some, refl, sym, ap, subst, ◌∙◌, inl, inr}
 use Rattle.std.proofs.lemmas.Option.{same_Some}
-use Rattle.pg_run.specs.pg_base.declared.id.FileId.{FileId}
-use Rattle.pg_run.specs.pg_base.Id.{is_same_file}
-use Rattle.pg_run.specs.pg_base.Stamp.{is_before}
-use Rattle.pg_run.proofs.pg_base.Orders.{is_same_file-true}
-use Rattle.pg_run.specs.pg_entries.declared.entry.Entry.{Entry}
-use Rattle.pg_run.specs.pg_entries.Entry.{joined_to}
-use Rattle.pg_run.specs.pg_names.declared.attributes.Attributes.{Attributes}
-use Rattle.pg_run.specs.pg_names.Names.{NamesValue, begin, cell_at, fill, join_entry, join_flag, join_place, known, new_held, own_at, own_of, raise, remove_server}
-use Rattle.pg_run.proofs.pg_names.Holding.{begun_cells, begun_known, fill_cells, fill_own}
-use Rattle.pg_run.proofs.pg_names.Lookups.{flag_cell, joined_own, joined_same, own_with_flag, own_with_place, place_cell}
-use Rattle.pg_run.specs.pg_register.declared.flag.Flag.{Flag}
-use Rattle.pg_run.specs.pg_register.declared.place.Place.{Place}
-use Rattle.pg_run.proofs.pg_register.ByServer.{IsByServer-join_flag, IsByServer-join_flags}
-use Rattle.pg_run.proofs.theory_flood_pieces.Choices.{chosen}
-use Rattle.pg_run.proofs.theory_flood_pieces.Growth.{entry_at_one, flag_one, place_one}
+use Rattle.law_frame.specs.pg_run.pg_base.declared.id.FileId.{FileId}
+use Rattle.law_frame.specs.pg_run.pg_base.Id.{is_same_file}
+use Rattle.law_frame.specs.pg_run.pg_base.Stamp.{is_before}
+use Rattle.law_frame.proofs.pg_run.pg_base.Orders.{is_same_file-true}
+use Rattle.law_frame.specs.pg_run.pg_entries.declared.entry.Entry.{Entry}
+use Rattle.law_frame.specs.pg_run.pg_entries.Entry.{joined_to}
+use Rattle.law_frame.specs.pg_run.pg_names.declared.attributes.Attributes.{Attributes}
+use Rattle.law_frame.specs.pg_run.pg_names.Names.{NamesValue, begin, cell_at, fill, join_entry, join_flag, join_place, known, new_held, own_at, own_of, raise, remove_server}
+use Rattle.law_frame.proofs.pg_run.pg_names.Holding.{begun_cells, begun_known, fill_cells, fill_own}
+use Rattle.law_frame.proofs.pg_run.pg_names.Lookups.{flag_cell, joined_own, joined_same, own_with_flag, own_with_place, place_cell}
+use Rattle.law_frame.specs.pg_run.pg_register.declared.flag.Flag.{Flag}
+use Rattle.law_frame.specs.pg_run.pg_register.declared.place.Place.{Place}
+use Rattle.law_frame.proofs.pg_run.pg_register.ByServer.{IsByServer-join_flag, IsByServer-join_flags}
+use Rattle.law_frame.proofs.pg_run.theory_flood_pieces.Choices.{chosen}
+use Rattle.law_frame.proofs.pg_run.theory_flood_pieces.Growth.{entry_at_one, flag_one, place_one}
 use Rattle.law_order.specs.Saying.{IsSaidCell, IsSaidOf, IsSaidOwn, Saying}
 use Rattle.law_order.proofs.Changes.{one_own}
 use Rattle.law_order.proofs.FlagsSay.{all_join, all_joined}

@@ -2,47 +2,47 @@
 use Rattle.std.proofs.Common.{ℕ, ◌≡◌, ◌==◌, ◌&&◌, Bool, true, false, not, eq-eqb, Some, refl, sym, ap, subst, ◌∙◌}
 use Rattle.std.proofs.lemmas.Bool.{and_parts, false≢true}
 use Rattle.std.proofs.lemmas.List.Elements.{All-contains}
-use Rattle.pg_run.specs.pg_base.declared.id.FileId.{FileId}
-use Rattle.pg_run.specs.pg_base.declared.stamp.Stamp.{Stamp}
-use Rattle.pg_run.specs.pg_base.Id.{is_same_file}
-use Rattle.pg_run.proofs.pg_base.Orders.{is_same_file-true}
-use Rattle.pg_run.specs.pg_intent.declared.intent.Intent.TheVariants as intent
-use Rattle.pg_run.specs.pg_intent.declared.key.IntentKey.{IntentKey}
-use Rattle.pg_run.specs.pg_intent.declared.key.IntentKey.TheVariants as intent_key
-use Rattle.pg_run.specs.pg_intent.Intents.{aimed, ended}
-use Rattle.pg_run.proofs.pg_intent.Kept.{own-aimed}
-use Rattle.pg_run.specs.pg_msg.declared.message.Ends.{Ends}
-use Rattle.pg_run.specs.pg_msg.declared.message.Message.{Message}
-use Rattle.pg_run.specs.pg_msg.declared.message.Message.TheVariants as message
-use Rattle.pg_run.specs.pg_msg.declared.summary.Greeting.TheVariants as greeting
-use Rattle.pg_run.specs.pg_msg.declared.work.Slot.{Slot}
-use Rattle.pg_run.specs.pg_msg.declared.work.Work.{Work}
-use Rattle.pg_run.specs.pg_names.declared.attributes.Attributes.{Attributes}
-use Rattle.pg_run.specs.pg_names.Names.{fill as fill_names, is_dir, or_blank, own_or_blank}
-use Rattle.pg_run.specs.pg_register.declared.place.Place.{Place}
-use Rattle.pg_run.specs.pg_register.Flag.{IsByServer}
-use Rattle.pg_run.specs.pg_register.Place.{blank_place, root}
-use Rattle.pg_run.specs.pg_replica.declared.replica.Replica.{Replica}
-use Rattle.pg_run.specs.pg_store.declared.store.Store.{Store}
-use Rattle.pg_run.specs.pg_store.Beginning.{let_go, with_intents}
-use Rattle.pg_run.specs.pg_store.Births.{birth_of, with_wishes}
-use Rattle.pg_run.specs.pg_store.Links.{unlink}
-use Rattle.pg_run.specs.pg_store.Seen.{server_of}
-use Rattle.pg_run.specs.pg_store.Store.{acknowledge, keep_delta, replica_at, with_names}
-use Rattle.pg_run.specs.pg_store.Wishes.{aim_wish}
-use Rattle.pg_run.proofs.pg_store.Aiming.{aim_births, aimed_births}
-use Rattle.pg_run.proofs.pg_store.Given.{pending_may}
-use Rattle.pg_run.specs.pg_pieces.Accepting.{ends_to}
-use Rattle.pg_run.specs.pg_pieces.Done.{Done, idle, link_of}
-use Rattle.pg_run.specs.pg_graph.Leaving.{bye_to, without_leave}
-use Rattle.pg_run.proofs.pg_graph.LeaveOk.{MayGo}
-use Rattle.pg_run.specs.pg_repair.Fetching.{granted_from, place_to_grant}
-use Rattle.pg_run.specs.pg_repair.Granting.{begun_by, granted_own}
-use Rattle.pg_run.specs.pg_server.Local.{receive}
-use Rattle.pg_run.specs.pg_server.pg_transfer.Asking.{with_notes}
-use Rattle.pg_run.specs.theory_flood_pieces.Whole.{IsOther}
-use Rattle.pg_run.proofs.theory_flood_pieces.Choices.{decided}
-use Rattle.pg_run.proofs.theory_flood_pieces.Together.{held_of_replica, own_of_held}
+use Rattle.law_frame.specs.pg_run.pg_base.declared.id.FileId.{FileId}
+use Rattle.law_frame.specs.pg_run.pg_base.declared.stamp.Stamp.{Stamp}
+use Rattle.law_frame.specs.pg_run.pg_base.Id.{is_same_file}
+use Rattle.law_frame.proofs.pg_run.pg_base.Orders.{is_same_file-true}
+use Rattle.law_frame.specs.pg_run.pg_intent.declared.intent.Intent.TheVariants as intent
+use Rattle.law_frame.specs.pg_run.pg_intent.declared.key.IntentKey.{IntentKey}
+use Rattle.law_frame.specs.pg_run.pg_intent.declared.key.IntentKey.TheVariants as intent_key
+use Rattle.law_frame.specs.pg_run.pg_intent.Intents.{aimed, ended}
+use Rattle.law_frame.proofs.pg_run.pg_intent.Kept.{own-aimed}
+use Rattle.law_frame.specs.pg_run.pg_msg.declared.message.Ends.{Ends}
+use Rattle.law_frame.specs.pg_run.pg_msg.declared.message.Message.{Message}
+use Rattle.law_frame.specs.pg_run.pg_msg.declared.message.Message.TheVariants as message
+use Rattle.law_frame.specs.pg_run.pg_msg.declared.summary.Greeting.TheVariants as greeting
+use Rattle.law_frame.specs.pg_run.pg_msg.declared.work.Slot.{Slot}
+use Rattle.law_frame.specs.pg_run.pg_msg.declared.work.Work.{Work}
+use Rattle.law_frame.specs.pg_run.pg_names.declared.attributes.Attributes.{Attributes}
+use Rattle.law_frame.specs.pg_run.pg_names.Names.{fill as fill_names, is_dir, or_blank, own_or_blank}
+use Rattle.law_frame.specs.pg_run.pg_register.declared.place.Place.{Place}
+use Rattle.law_frame.specs.pg_run.pg_register.Flag.{IsByServer}
+use Rattle.law_frame.specs.pg_run.pg_register.Place.{blank_place, root}
+use Rattle.law_frame.specs.pg_run.pg_replica.declared.replica.Replica.{Replica}
+use Rattle.law_frame.specs.pg_run.pg_store.declared.store.Store.{Store}
+use Rattle.law_frame.specs.pg_run.pg_store.Beginning.{let_go, with_intents}
+use Rattle.law_frame.specs.pg_run.pg_store.Births.{birth_of, with_wishes}
+use Rattle.law_frame.specs.pg_run.pg_store.Links.{unlink}
+use Rattle.law_frame.specs.pg_run.pg_store.Seen.{server_of}
+use Rattle.law_frame.specs.pg_run.pg_store.Store.{acknowledge, keep_delta, replica_at, with_names}
+use Rattle.law_frame.specs.pg_run.pg_store.Wishes.{aim_wish}
+use Rattle.law_frame.proofs.pg_run.pg_store.Aiming.{aim_births, aimed_births}
+use Rattle.law_frame.proofs.pg_run.pg_store.Given.{pending_may}
+use Rattle.law_frame.specs.pg_run.pg_pieces.Accepting.{ends_to}
+use Rattle.law_frame.specs.pg_run.pg_pieces.Done.{Done, idle, link_of}
+use Rattle.law_frame.specs.pg_run.pg_graph.Leaving.{bye_to, without_leave}
+use Rattle.law_frame.proofs.pg_run.pg_graph.LeaveOk.{MayGo}
+use Rattle.law_frame.specs.pg_run.pg_repair.Fetching.{granted_from, place_to_grant}
+use Rattle.law_frame.specs.pg_run.pg_repair.Granting.{begun_by, granted_own}
+use Rattle.law_frame.specs.pg_run.pg_server.Local.{receive}
+use Rattle.law_frame.specs.pg_run.pg_server.pg_transfer.Asking.{with_notes}
+use Rattle.law_frame.specs.pg_run.theory_flood_pieces.Whole.{IsOther}
+use Rattle.law_frame.proofs.pg_run.theory_flood_pieces.Choices.{decided}
+use Rattle.law_frame.proofs.pg_run.theory_flood_pieces.Together.{held_of_replica, own_of_held}
 use Rattle.law_frame.proofs.Keeps.{Answers, Keeps}
 use Rattle.law_frame.proofs.Received.{receive_keeps}
 use Rattle.law_order.specs.Saying.{IsClosed, IsIntended, IsSaidGranted, IsSaidLeft, IsSaidOfMessage, IsSaidOwn, IsSaidTold, Saying}

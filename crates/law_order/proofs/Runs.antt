@@ -3,38 +3,38 @@
 -- flags are of the run's servers.
 use Rattle.std.proofs.Common.{ℕ, ◌≡◌, ◌≤◌, ◌<◌, ◌+◌, ◌^◌, Bool, true, false, List, Option, None, Some, is_some, refl, sym, ap, subst, ◌∙◌, inl, inr, arith}
 use Rattle.std.proofs.lemmas.List.Elements.{All-append, All-contains, All-nil}
-use Rattle.pg_run.specs.pg_base.declared.id.FileId.{FileId}
-use Rattle.pg_run.specs.pg_base.declared.id.Kind.{Kind}
-use Rattle.pg_run.specs.pg_base.Id.{is_same_file}
-use Rattle.pg_run.proofs.pg_base.Orders.{is_same_file-true}
-use Rattle.pg_run.specs.pg_intent.declared.intent.Intent.{Intent}
-use Rattle.pg_run.specs.pg_msg.declared.message.Sent.{Sent}
-use Rattle.pg_run.specs.pg_msg.Work.{new_work}
-use Rattle.pg_run.specs.pg_call.declared.call.Call.{Call}
-use Rattle.pg_run.specs.pg_event.declared.event.Event.{Event}
-use Rattle.pg_run.specs.pg_names.Names.{InodeValue, known, own_of}
-use Rattle.pg_run.specs.pg_register.Place.{root}
-use Rattle.pg_run.specs.theory_flood.World.{after}
-use Rattle.pg_run.proofs.theory_flood.Flood.{after_itself, here}
-use Rattle.pg_run.specs.pg_store.declared.store.Store.{Store}
-use Rattle.pg_run.specs.pg_store.Births.{fill_at}
-use Rattle.pg_run.specs.pg_store.Seen.{server_of}
-use Rattle.pg_run.specs.pg_store.Store.{is_held}
-use Rattle.pg_run.proofs.pg_store.InTime.{files_in_time}
-use Rattle.pg_run.specs.pg_intentions.Fills.{files_to_fill, is_in}
-use Rattle.pg_run.specs.pg_intentions.Needed.{IsToFill}
-use Rattle.pg_run.proofs.pg_intentions.Needs.{what_is_needed}
-use Rattle.pg_run.specs.pg_calls.Calls.{do_call}
-use Rattle.pg_run.specs.pg_calls.Naming.{next_id}
-use Rattle.pg_run.specs.pg_server.declared.input.Input.{Input}
-use Rattle.pg_run.specs.pg_server.declared.input.Input.TheVariants as input
-use Rattle.pg_run.specs.pg_server.Local.{effect, first_effect}
-use Rattle.pg_run.specs.pg_house.Facts.{AreOrdered}
-use Rattle.pg_run.specs.theory_flood_pieces.Whole.{IsWhole}
-use Rattle.pg_run.proofs.theory_flood_pieces.Together.{own_of_held}
-use Rattle.pg_run.specs.Journal.{mail}
-use Rattle.pg_run.specs.Run.{World, effect_step, run, start, world_after}
-use Rattle.pg_run.proofs.Frame.{HasCome, holds_in_runs, no_server_comes}
+use Rattle.law_frame.specs.pg_run.pg_base.declared.id.FileId.{FileId}
+use Rattle.law_frame.specs.pg_run.pg_base.declared.id.Kind.{Kind}
+use Rattle.law_frame.specs.pg_run.pg_base.Id.{is_same_file}
+use Rattle.law_frame.proofs.pg_run.pg_base.Orders.{is_same_file-true}
+use Rattle.law_frame.specs.pg_run.pg_intent.declared.intent.Intent.{Intent}
+use Rattle.law_frame.specs.pg_run.pg_msg.declared.message.Sent.{Sent}
+use Rattle.law_frame.specs.pg_run.pg_msg.Work.{new_work}
+use Rattle.law_frame.specs.pg_run.pg_call.declared.call.Call.{Call}
+use Rattle.law_frame.specs.pg_run.pg_event.declared.event.Event.{Event}
+use Rattle.law_frame.specs.pg_run.pg_names.Names.{InodeValue, known, own_of}
+use Rattle.law_frame.specs.pg_run.pg_register.Place.{root}
+use Rattle.law_frame.specs.pg_run.theory_flood.World.{after}
+use Rattle.law_frame.proofs.pg_run.theory_flood.Flood.{after_itself, here}
+use Rattle.law_frame.specs.pg_run.pg_store.declared.store.Store.{Store}
+use Rattle.law_frame.specs.pg_run.pg_store.Births.{fill_at}
+use Rattle.law_frame.specs.pg_run.pg_store.Seen.{server_of}
+use Rattle.law_frame.specs.pg_run.pg_store.Store.{is_held}
+use Rattle.law_frame.proofs.pg_run.pg_store.InTime.{files_in_time}
+use Rattle.law_frame.specs.pg_run.pg_intentions.Fills.{files_to_fill, is_in}
+use Rattle.law_frame.specs.pg_run.pg_intentions.Needed.{IsToFill}
+use Rattle.law_frame.proofs.pg_run.pg_intentions.Needs.{what_is_needed}
+use Rattle.law_frame.specs.pg_run.pg_calls.Calls.{do_call}
+use Rattle.law_frame.specs.pg_run.pg_calls.Naming.{next_id}
+use Rattle.law_frame.specs.pg_run.pg_server.declared.input.Input.{Input}
+use Rattle.law_frame.specs.pg_run.pg_server.declared.input.Input.TheVariants as input
+use Rattle.law_frame.specs.pg_run.pg_server.Local.{effect, first_effect}
+use Rattle.law_frame.specs.pg_run.pg_house.Facts.{AreOrdered}
+use Rattle.law_frame.specs.pg_run.theory_flood_pieces.Whole.{IsWhole}
+use Rattle.law_frame.proofs.pg_run.theory_flood_pieces.Together.{own_of_held}
+use Rattle.law_frame.specs.pg_run.Journal.{mail}
+use Rattle.law_frame.specs.pg_run.Run.{World, effect_step, run, start, world_after}
+use Rattle.law_frame.proofs.pg_run.Frame.{HasCome, holds_in_runs, no_server_comes}
 use Rattle.law_order.specs.Laws.{files_of}
 use Rattle.law_order.specs.Named.{IsMade, naming}
 use Rattle.law_order.specs.Saying.{IsSaidOfMessage}

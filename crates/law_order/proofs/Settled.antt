@@ -2,28 +2,28 @@
 use Rattle.std.proofs.Common.{ℕ, drop, ◌≡◌, ◌+◌, Bool, true, false, cond, List, length, None, Some, refl, sym, ap, subst, ◌∙◌}
 use Rattle.std.proofs.lemmas.Bool.{false≢true}
 use Rattle.std.proofs.lemmas.Option.{none-some}
-use Rattle.pg_run.specs.pg_base.declared.id.FileId.{FileId}
-use Rattle.pg_run.specs.pg_base.Id.{is_same_file}
-use Rattle.pg_run.specs.pg_register.Place.{root}
-use Rattle.pg_run.specs.pg_entries.declared.entry.Entry.{Entry}
-use Rattle.pg_run.specs.pg_msg.declared.work.Work.{Work}
-use Rattle.pg_run.specs.pg_names.declared.attributes.Attributes.{Attributes}
-use Rattle.pg_run.specs.pg_names.Names.{NamesValue, cell_at, directories, own_at, own_of}
-use Rattle.pg_run.specs.pg_house.Cycles.{climb, is_inner, is_lost}
-use Rattle.pg_run.specs.pg_house.Facts.{is_among}
-use Rattle.pg_run.specs.pg_house.House.{house}
-use Rattle.pg_run.specs.pg_house.Work.{State, state_of}
-use Rattle.pg_run.proofs.pg_house.AllClimb.{none_lost}
-use Rattle.pg_run.proofs.pg_house.Ends as ends
-use Rattle.pg_run.proofs.pg_house.NoCycles.{inner_parts}
-use Rattle.pg_run.specs.pg_store.declared.store.Store.{Store}
-use Rattle.pg_run.specs.pg_store.Start.{first_names}
-use Rattle.pg_run.specs.pg_store.Store.{with_names}
-use Rattle.pg_run.specs.pg_cells.Settling.{rules}
-use Rattle.pg_run.specs.theory_flood_pieces.Whole.{AreOrderly}
-use Rattle.pg_run.proofs.theory_flood_pieces.Start.{Root, no_entry}
-use Rattle.pg_run.proofs.theory_flood_pieces.Touching.{same_names}
-use Rattle.pg_run.specs.Laws.{IsInOrder}
+use Rattle.law_frame.specs.pg_run.pg_base.declared.id.FileId.{FileId}
+use Rattle.law_frame.specs.pg_run.pg_base.Id.{is_same_file}
+use Rattle.law_frame.specs.pg_run.pg_register.Place.{root}
+use Rattle.law_frame.specs.pg_run.pg_entries.declared.entry.Entry.{Entry}
+use Rattle.law_frame.specs.pg_run.pg_msg.declared.work.Work.{Work}
+use Rattle.law_frame.specs.pg_run.pg_names.declared.attributes.Attributes.{Attributes}
+use Rattle.law_frame.specs.pg_run.pg_names.Names.{NamesValue, cell_at, directories, own_at, own_of}
+use Rattle.law_frame.specs.pg_run.pg_house.Cycles.{climb, is_inner, is_lost}
+use Rattle.law_frame.specs.pg_run.pg_house.Facts.{is_among}
+use Rattle.law_frame.specs.pg_run.pg_house.House.{house}
+use Rattle.law_frame.specs.pg_run.pg_house.Work.{State, state_of}
+use Rattle.law_frame.proofs.pg_run.pg_house.AllClimb.{none_lost}
+use Rattle.law_frame.proofs.pg_run.pg_house.Ends as ends
+use Rattle.law_frame.proofs.pg_run.pg_house.NoCycles.{inner_parts}
+use Rattle.law_frame.specs.pg_run.pg_store.declared.store.Store.{Store}
+use Rattle.law_frame.specs.pg_run.pg_store.Start.{first_names}
+use Rattle.law_frame.specs.pg_run.pg_store.Store.{with_names}
+use Rattle.law_frame.specs.pg_run.pg_cells.Settling.{rules}
+use Rattle.law_frame.specs.pg_run.theory_flood_pieces.Whole.{AreOrderly}
+use Rattle.law_frame.proofs.pg_run.theory_flood_pieces.Start.{Root, no_entry}
+use Rattle.law_frame.proofs.pg_run.theory_flood_pieces.Touching.{same_names}
+use Rattle.law_frame.specs.pg_run.Laws.{IsInOrder}
 use Rattle.law_order.specs.Sound.{IsSettled, NoneLost}
 
 -- ---- behind the house rules

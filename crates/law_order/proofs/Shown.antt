@@ -5,24 +5,24 @@ use Rattle.std.specs.List.Sorted.{IsStrictlySortedBy}
 use Rattle.std.specs.Map.{keys_of, values_of}
 use Rattle.std.proofs.lemmas.Bool.{false≢true}
 use Rattle.std.proofs.lemmas.List.{get_or-map, length-map}
-use Rattle.pg_run.specs.pg_base.declared.id.FileId.{FileId}
-use Rattle.pg_run.specs.pg_base.Id.{Fits, file_cmp, is_same_file}
-use Rattle.pg_run.proofs.pg_base.Entries.{lookup-place}
-use Rattle.pg_run.proofs.pg_base.Orders.{file_total}
-use Rattle.pg_run.specs.pg_entries.declared.entry.Entry.{Entry}
-use Rattle.pg_run.specs.pg_entries.Entry.{entry_of}
-use Rattle.pg_run.specs.pg_entries.Names.{HasName}
-use Rattle.pg_run.proofs.pg_entries.Differ.{differ}
-use Rattle.pg_run.specs.pg_names.Names.{InodeValue, NamesValue, cell_at, entry_in, known}
-use Rattle.pg_run.specs.pg_register.Place.{root, tilde_name}
-use Rattle.pg_run.specs.Laws.{ShowsDistinctNames}
-use Rattle.pg_run.specs.Run.{run}
+use Rattle.law_frame.specs.pg_run.pg_base.declared.id.FileId.{FileId}
+use Rattle.law_frame.specs.pg_run.pg_base.Id.{Fits, file_cmp, is_same_file}
+use Rattle.law_frame.proofs.pg_run.pg_base.Entries.{lookup-place}
+use Rattle.law_frame.proofs.pg_run.pg_base.Orders.{file_total}
+use Rattle.law_frame.specs.pg_run.pg_entries.declared.entry.Entry.{Entry}
+use Rattle.law_frame.specs.pg_run.pg_entries.Entry.{entry_of}
+use Rattle.law_frame.specs.pg_run.pg_entries.Names.{HasName}
+use Rattle.law_frame.proofs.pg_run.pg_entries.Differ.{differ}
+use Rattle.law_frame.specs.pg_run.pg_names.Names.{InodeValue, NamesValue, cell_at, entry_in, known}
+use Rattle.law_frame.specs.pg_run.pg_register.Place.{root, tilde_name}
+use Rattle.law_frame.specs.pg_run.Laws.{ShowsDistinctNames}
+use Rattle.law_frame.specs.pg_run.Run.{run}
 use Rattle.law_order.specs.Laws.{NamesAreDistinct, files_of}
 use Rattle.law_order.specs.Named.{IsMade, naming}
 use Rattle.law_order.specs.Saying.{IsSaidOf}
 use Rattle.law_order.proofs.Runs.{sound_run}
-use Rattle.pg_run.specs.theory_flood_pieces.Whole.{AreByChild}
-use Rattle.pg_run.specs.pg_house.Facts.{AreOrdered}
+use Rattle.law_frame.specs.pg_run.theory_flood_pieces.Whole.{AreByChild}
+use Rattle.law_frame.specs.pg_run.pg_house.Facts.{AreOrdered}
 
 -- an entry among those of a directory is found at some child
 among_found : (es : List (FileId × Entry)) (e : Entry) → IsStrictlySortedBy file_cmp (keys_of es) → IsAmong (values_of es) e → (g : FileId) × (entry_of es g ≡ Some e)

@@ -2,45 +2,45 @@
 -- is known said.
 use Rattle.std.proofs.Common.{ℕ, drop, length, ◌≡◌, Bool, true, not, List, [], ◌∷◌, Option, None, Some, is_some, refl, sym, ap, subst, ◌∙◌}
 use Rattle.std.specs.List.{IsAmong}
-use Rattle.pg_run.specs.pg_base.declared.id.FileId.{FileId}
-use Rattle.pg_run.specs.pg_base.declared.policy.Policy.{Policy}
-use Rattle.pg_run.specs.pg_base.declared.stamp.Stamp.{Stamp}
-use Rattle.pg_run.specs.pg_base.Version.{VersionValue}
-use Rattle.pg_run.specs.pg_patch.Ranges.{RangesValue}
-use Rattle.pg_run.specs.pg_edges.declared.key.Key.{Key}
-use Rattle.pg_run.specs.pg_entries.declared.entry.Entry.{Entry}
-use Rattle.pg_run.specs.pg_intent.declared.intent.Intent.{Intent}
-use Rattle.pg_run.specs.pg_intent.declared.intent.Intent.TheVariants as intent
-use Rattle.pg_run.specs.pg_intent.declared.key.IntentKey.{IntentKey}
-use Rattle.pg_run.specs.pg_intent.Intents.{HaveOwnKeys, ended, has_key, intent_at}
-use Rattle.pg_run.proofs.pg_intent.Kept.{own-ended}
-use Rattle.pg_run.specs.pg_msg.declared.work.Touched.{Touched}
-use Rattle.pg_run.specs.pg_msg.declared.work.Work.{Work}
-use Rattle.pg_run.specs.pg_names.declared.attributes.Attributes.{Attributes}
-use Rattle.pg_run.specs.pg_names.Names.{InodeValue, NamesValue, fill, is_dir, known, own_of}
-use Rattle.pg_run.proofs.pg_names.Holding.{fill_own}
-use Rattle.pg_run.specs.pg_register.declared.flag.Flag.{Flag}
-use Rattle.pg_run.specs.pg_register.declared.place.Place.{Place}
-use Rattle.pg_run.specs.pg_register.Flag.{IsByServer}
-use Rattle.pg_run.specs.pg_replica.declared.link.Link.{Link}
-use Rattle.pg_run.specs.pg_house.House.{house}
-use Rattle.pg_run.specs.pg_house.Work.{state_of}
-use Rattle.pg_run.proofs.pg_house.Keys.{rules_keys}
-use Rattle.pg_run.specs.pg_store.declared.store.Store.{Store}
-use Rattle.pg_run.specs.pg_store.Beginning.{begin, patches_of, put_new, take_patch, take_patches, take_told, take_told_in, with_intents}
-use Rattle.pg_run.specs.pg_store.Links.{is_linked, is_new_link, link, put_link, unlink}
-use Rattle.pg_run.specs.pg_store.Store.{acknowledge, is_new_version, is_newer_entry, is_newer_flag, is_newer_place, put_entry, put_flag, put_place, put_version, take_entry, take_flag, take_place, take_version, touch, with_names, write}
-use Rattle.pg_run.specs.pg_store.Together.{AreBirths, HoldsAsBefore, MayBegin}
-use Rattle.pg_run.proofs.pg_store.Given.{begin_births, births_as_before}
-use Rattle.pg_run.proofs.pg_store.Pairs.{acknowledge_as_before, as_before, ended_as_before, entry_as_before, flag_as_before, link_as_before, names_as_before, place_as_before, then_as_before, touch_as_before, unlink_as_before, version_as_before, write_as_before}
-use Rattle.pg_run.specs.pg_cells.Settling.{rules, touch_all}
-use Rattle.pg_run.specs.theory_flood_pieces.Laws.{AreAlike}
-use Rattle.pg_run.specs.theory_flood_pieces.Whole.{IsOther, IsWhole}
-use Rattle.pg_run.proofs.theory_flood_pieces.Choices.{chosen}
-use Rattle.pg_run.proofs.theory_flood_pieces.Settling.{whole_rules}
-use Rattle.pg_run.proofs.theory_flood_pieces.Together.{held_by_keys}
-use Rattle.pg_run.proofs.theory_flood_pieces.Whole.{whole_acknowledge, whole_alike, whole_entry, whole_flag, whole_link, whole_place, whole_unlink, whole_version, whole_write}
-use Rattle.pg_run.proofs.theory_flood_pieces.WholeBeginning.{whole_begun, whole_filled}
+use Rattle.law_frame.specs.pg_run.pg_base.declared.id.FileId.{FileId}
+use Rattle.law_frame.specs.pg_run.pg_base.declared.policy.Policy.{Policy}
+use Rattle.law_frame.specs.pg_run.pg_base.declared.stamp.Stamp.{Stamp}
+use Rattle.law_frame.specs.pg_run.pg_base.Version.{VersionValue}
+use Rattle.law_frame.specs.pg_run.pg_patch.Ranges.{RangesValue}
+use Rattle.law_frame.specs.pg_run.pg_edges.declared.key.Key.{Key}
+use Rattle.law_frame.specs.pg_run.pg_entries.declared.entry.Entry.{Entry}
+use Rattle.law_frame.specs.pg_run.pg_intent.declared.intent.Intent.{Intent}
+use Rattle.law_frame.specs.pg_run.pg_intent.declared.intent.Intent.TheVariants as intent
+use Rattle.law_frame.specs.pg_run.pg_intent.declared.key.IntentKey.{IntentKey}
+use Rattle.law_frame.specs.pg_run.pg_intent.Intents.{HaveOwnKeys, ended, has_key, intent_at}
+use Rattle.law_frame.proofs.pg_run.pg_intent.Kept.{own-ended}
+use Rattle.law_frame.specs.pg_run.pg_msg.declared.work.Touched.{Touched}
+use Rattle.law_frame.specs.pg_run.pg_msg.declared.work.Work.{Work}
+use Rattle.law_frame.specs.pg_run.pg_names.declared.attributes.Attributes.{Attributes}
+use Rattle.law_frame.specs.pg_run.pg_names.Names.{InodeValue, NamesValue, fill, is_dir, known, own_of}
+use Rattle.law_frame.proofs.pg_run.pg_names.Holding.{fill_own}
+use Rattle.law_frame.specs.pg_run.pg_register.declared.flag.Flag.{Flag}
+use Rattle.law_frame.specs.pg_run.pg_register.declared.place.Place.{Place}
+use Rattle.law_frame.specs.pg_run.pg_register.Flag.{IsByServer}
+use Rattle.law_frame.specs.pg_run.pg_replica.declared.link.Link.{Link}
+use Rattle.law_frame.specs.pg_run.pg_house.House.{house}
+use Rattle.law_frame.specs.pg_run.pg_house.Work.{state_of}
+use Rattle.law_frame.proofs.pg_run.pg_house.Keys.{rules_keys}
+use Rattle.law_frame.specs.pg_run.pg_store.declared.store.Store.{Store}
+use Rattle.law_frame.specs.pg_run.pg_store.Beginning.{begin, patches_of, put_new, take_patch, take_patches, take_told, take_told_in, with_intents}
+use Rattle.law_frame.specs.pg_run.pg_store.Links.{is_linked, is_new_link, link, put_link, unlink}
+use Rattle.law_frame.specs.pg_run.pg_store.Store.{acknowledge, is_new_version, is_newer_entry, is_newer_flag, is_newer_place, put_entry, put_flag, put_place, put_version, take_entry, take_flag, take_place, take_version, touch, with_names, write}
+use Rattle.law_frame.specs.pg_run.pg_store.Together.{AreBirths, HoldsAsBefore, MayBegin}
+use Rattle.law_frame.proofs.pg_run.pg_store.Given.{begin_births, births_as_before}
+use Rattle.law_frame.proofs.pg_run.pg_store.Pairs.{acknowledge_as_before, as_before, ended_as_before, entry_as_before, flag_as_before, link_as_before, names_as_before, place_as_before, then_as_before, touch_as_before, unlink_as_before, version_as_before, write_as_before}
+use Rattle.law_frame.specs.pg_run.pg_cells.Settling.{rules, touch_all}
+use Rattle.law_frame.specs.pg_run.theory_flood_pieces.Laws.{AreAlike}
+use Rattle.law_frame.specs.pg_run.theory_flood_pieces.Whole.{IsOther, IsWhole}
+use Rattle.law_frame.proofs.pg_run.theory_flood_pieces.Choices.{chosen}
+use Rattle.law_frame.proofs.pg_run.theory_flood_pieces.Settling.{whole_rules}
+use Rattle.law_frame.proofs.pg_run.theory_flood_pieces.Together.{held_by_keys}
+use Rattle.law_frame.proofs.pg_run.theory_flood_pieces.Whole.{whole_acknowledge, whole_alike, whole_entry, whole_flag, whole_link, whole_place, whole_unlink, whole_version, whole_write}
+use Rattle.law_frame.proofs.pg_run.theory_flood_pieces.WholeBeginning.{whole_begun, whole_filled}
 use Rattle.law_order.specs.Saying.{AreIntended, IsClosed, IsIntended, IsSaidOf, IsSaidOwn, IsSaidTold, Saying}
 use Rattle.law_order.specs.Sound.{AreTidy, IsNamed, IsSound}
 use Rattle.law_order.proofs.HouseSays.{AreLeft}

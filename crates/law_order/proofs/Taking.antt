@@ -1,43 +1,43 @@
 -- What a held thing takes, and what is answered, in the midst of an event.
 use Rattle.std.proofs.Common.{ℕ, ◌≡◌, ◌&&◌, Bool, true, false, not, cond, [], ◌∷◌, Option, None, Some, refl, sym, ap, subst, ◌∙◌}
 use Rattle.std.proofs.lemmas.List.Elements.{All-append, All-cons, All-nil}
-use Rattle.pg_run.specs.pg_base.declared.id.FileId.{FileId}
-use Rattle.pg_run.specs.pg_base.Version.{VersionValue}
-use Rattle.pg_run.specs.pg_edges.declared.key.Key.{Key}
-use Rattle.pg_run.specs.pg_edges.declared.key.Key.TheVariants as key
-use Rattle.pg_run.specs.pg_entries.declared.entry.Entry.{Entry}
-use Rattle.pg_run.specs.pg_intent.declared.intent.Intent.{Intent}
-use Rattle.pg_run.specs.pg_intent.declared.key.IntentKey.{IntentKey}
-use Rattle.pg_run.specs.pg_intent.declared.key.IntentKey.TheVariants as intent_key
-use Rattle.pg_run.specs.pg_intent.Intent.{key_of}
-use Rattle.pg_run.specs.pg_intent.Intents.{begun, stands}
-use Rattle.pg_run.specs.pg_intent.Key.{is_same_key}
-use Rattle.pg_run.proofs.pg_intent.Kept.{own-begun}
-use Rattle.pg_run.specs.pg_msg.declared.message.Message.{Message}
-use Rattle.pg_run.specs.pg_msg.declared.message.Sent.{Sent}
-use Rattle.pg_run.specs.pg_msg.declared.update.Update.TheVariants as update
-use Rattle.pg_run.specs.pg_msg.declared.work.Work.{Work}
-use Rattle.pg_run.specs.pg_msg.Work.{with_begun, with_linked, with_made, with_tail, with_touched, with_unsure}
-use Rattle.pg_run.specs.pg_names.declared.attributes.Attributes.{Attributes}
-use Rattle.pg_run.specs.pg_names.Names.{is_place_new, or_blank, own_at, own_or_blank}
-use Rattle.pg_run.specs.pg_register.declared.flag.Flag.{Flag}
-use Rattle.pg_run.specs.pg_register.declared.place.Place.{Place}
-use Rattle.pg_run.specs.pg_house.Work.{note_left, state_of}
-use Rattle.pg_run.specs.pg_store.declared.store.Store.{Store}
-use Rattle.pg_run.specs.pg_store.Beginning.{with_intents}
-use Rattle.pg_run.specs.pg_store.Links.{is_new_link}
-use Rattle.pg_run.specs.pg_store.Seen.{removed_of}
-use Rattle.pg_run.specs.pg_store.Store.{entry_news, is_new_version, is_newer_flag, is_newer_place}
-use Rattle.pg_run.specs.pg_pieces.Accepting.{link_peer, with_link}
-use Rattle.pg_run.specs.pg_pieces.Done.{Done, idle}
-use Rattle.pg_run.specs.pg_pieces.Intending.{begin_intent, with_begun_if}
-use Rattle.pg_run.specs.pg_pieces.Making.{make_flag, own_next, raise_flag}
-use Rattle.pg_run.specs.pg_pieces.Posting.{post, reply, sent_to}
-use Rattle.pg_run.specs.pg_cells.Settling.{ruled}
-use Rattle.pg_run.specs.pg_pieces.Taking.{is_any_news, is_place_news, take_entry_cell, take_entry_noted, take_flag_noted, take_place_noted, take_version_noted, with_doubt, with_left_if, with_news}
-use Rattle.pg_run.specs.pg_calls.Making.{make_place}
-use Rattle.pg_run.specs.theory_flood_pieces.Whole.{IsOther}
-use Rattle.pg_run.proofs.theory_flood_pieces.Choices.{chosen, decided}
+use Rattle.law_frame.specs.pg_run.pg_base.declared.id.FileId.{FileId}
+use Rattle.law_frame.specs.pg_run.pg_base.Version.{VersionValue}
+use Rattle.law_frame.specs.pg_run.pg_edges.declared.key.Key.{Key}
+use Rattle.law_frame.specs.pg_run.pg_edges.declared.key.Key.TheVariants as key
+use Rattle.law_frame.specs.pg_run.pg_entries.declared.entry.Entry.{Entry}
+use Rattle.law_frame.specs.pg_run.pg_intent.declared.intent.Intent.{Intent}
+use Rattle.law_frame.specs.pg_run.pg_intent.declared.key.IntentKey.{IntentKey}
+use Rattle.law_frame.specs.pg_run.pg_intent.declared.key.IntentKey.TheVariants as intent_key
+use Rattle.law_frame.specs.pg_run.pg_intent.Intent.{key_of}
+use Rattle.law_frame.specs.pg_run.pg_intent.Intents.{begun, stands}
+use Rattle.law_frame.specs.pg_run.pg_intent.Key.{is_same_key}
+use Rattle.law_frame.proofs.pg_run.pg_intent.Kept.{own-begun}
+use Rattle.law_frame.specs.pg_run.pg_msg.declared.message.Message.{Message}
+use Rattle.law_frame.specs.pg_run.pg_msg.declared.message.Sent.{Sent}
+use Rattle.law_frame.specs.pg_run.pg_msg.declared.update.Update.TheVariants as update
+use Rattle.law_frame.specs.pg_run.pg_msg.declared.work.Work.{Work}
+use Rattle.law_frame.specs.pg_run.pg_msg.Work.{with_begun, with_linked, with_made, with_tail, with_touched, with_unsure}
+use Rattle.law_frame.specs.pg_run.pg_names.declared.attributes.Attributes.{Attributes}
+use Rattle.law_frame.specs.pg_run.pg_names.Names.{is_place_new, or_blank, own_at, own_or_blank}
+use Rattle.law_frame.specs.pg_run.pg_register.declared.flag.Flag.{Flag}
+use Rattle.law_frame.specs.pg_run.pg_register.declared.place.Place.{Place}
+use Rattle.law_frame.specs.pg_run.pg_house.Work.{note_left, state_of}
+use Rattle.law_frame.specs.pg_run.pg_store.declared.store.Store.{Store}
+use Rattle.law_frame.specs.pg_run.pg_store.Beginning.{with_intents}
+use Rattle.law_frame.specs.pg_run.pg_store.Links.{is_new_link}
+use Rattle.law_frame.specs.pg_run.pg_store.Seen.{removed_of}
+use Rattle.law_frame.specs.pg_run.pg_store.Store.{entry_news, is_new_version, is_newer_flag, is_newer_place}
+use Rattle.law_frame.specs.pg_run.pg_pieces.Accepting.{link_peer, with_link}
+use Rattle.law_frame.specs.pg_run.pg_pieces.Done.{Done, idle}
+use Rattle.law_frame.specs.pg_run.pg_pieces.Intending.{begin_intent, with_begun_if}
+use Rattle.law_frame.specs.pg_run.pg_pieces.Making.{make_flag, own_next, raise_flag}
+use Rattle.law_frame.specs.pg_run.pg_pieces.Posting.{post, reply, sent_to}
+use Rattle.law_frame.specs.pg_run.pg_cells.Settling.{ruled}
+use Rattle.law_frame.specs.pg_run.pg_pieces.Taking.{is_any_news, is_place_news, take_entry_cell, take_entry_noted, take_flag_noted, take_place_noted, take_version_noted, with_doubt, with_left_if, with_news}
+use Rattle.law_frame.specs.pg_run.pg_calls.Making.{make_place}
+use Rattle.law_frame.specs.pg_run.theory_flood_pieces.Whole.{IsOther}
+use Rattle.law_frame.proofs.pg_run.theory_flood_pieces.Choices.{chosen, decided}
 use Rattle.law_order.specs.Saying.{IsClosed, IsIntended, IsSaidOfMessage, IsSaidTold, Saying}
 use Rattle.law_order.proofs.BirthsStay.{other_births}
 use Rattle.law_order.proofs.HouseFrame.{SendsSame, house_frame, left_sends, sends_either, sends_same}

@@ -5,23 +5,23 @@ use Rattle.std.specs.List.Sorted.{IsStrictlySortedBy}
 use Rattle.std.specs.Map.{keys_of}
 use Rattle.std.proofs.lemmas.Bool.{false≢true}
 use Rattle.std.proofs.lemmas.Option.{same_Some}
-use Rattle.pg_run.specs.pg_base.declared.id.FileId.{FileId}
-use Rattle.pg_run.specs.pg_base.Id.{file_cmp, is_same_file}
-use Rattle.pg_run.proofs.pg_base.Entries.{IsStrictlySortedBy-insert_entry}
-use Rattle.pg_run.proofs.pg_base.Orders.{file_total, is_same_file-true}
-use Rattle.pg_run.specs.pg_entries.declared.entry.Entry.{Entry}
-use Rattle.pg_run.specs.pg_names.declared.attributes.Attributes.{Attributes}
-use Rattle.pg_run.specs.pg_names.Names.{InodeValue, NamesValue, begin, fill, filled, is_full, is_full_of, join_entry, join_flag, join_place, known, new_held, raise, remove_server, update, with_flag, with_joined, with_place}
-use Rattle.pg_run.proofs.pg_names.Holding.{begun_known, begun_stays, fill_other, fill_same, full_kept}
-use Rattle.pg_run.proofs.pg_names.Lookups.{update_frame}
-use Rattle.pg_run.specs.pg_register.declared.flag.Flag.{Flag}
-use Rattle.pg_run.specs.pg_register.declared.place.Place.{Place}
-use Rattle.pg_run.specs.pg_register.Place.{root}
-use Rattle.pg_run.specs.pg_house.House.{house}
-use Rattle.pg_run.specs.pg_house.Work.{State}
-use Rattle.pg_run.proofs.pg_house.Fullness.{rules_full}
-use Rattle.pg_run.proofs.pg_house.Keys.{rules_keys}
-use Rattle.pg_run.proofs.pg_house.Ordered.{rules_ordered}
+use Rattle.law_frame.specs.pg_run.pg_base.declared.id.FileId.{FileId}
+use Rattle.law_frame.specs.pg_run.pg_base.Id.{file_cmp, is_same_file}
+use Rattle.law_frame.proofs.pg_run.pg_base.Entries.{IsStrictlySortedBy-insert_entry}
+use Rattle.law_frame.proofs.pg_run.pg_base.Orders.{file_total, is_same_file-true}
+use Rattle.law_frame.specs.pg_run.pg_entries.declared.entry.Entry.{Entry}
+use Rattle.law_frame.specs.pg_run.pg_names.declared.attributes.Attributes.{Attributes}
+use Rattle.law_frame.specs.pg_run.pg_names.Names.{InodeValue, NamesValue, begin, fill, filled, is_full, is_full_of, join_entry, join_flag, join_place, known, new_held, raise, remove_server, update, with_flag, with_joined, with_place}
+use Rattle.law_frame.proofs.pg_run.pg_names.Holding.{begun_known, begun_stays, fill_other, fill_same, full_kept}
+use Rattle.law_frame.proofs.pg_run.pg_names.Lookups.{update_frame}
+use Rattle.law_frame.specs.pg_run.pg_register.declared.flag.Flag.{Flag}
+use Rattle.law_frame.specs.pg_run.pg_register.declared.place.Place.{Place}
+use Rattle.law_frame.specs.pg_run.pg_register.Place.{root}
+use Rattle.law_frame.specs.pg_run.pg_house.House.{house}
+use Rattle.law_frame.specs.pg_run.pg_house.Work.{State}
+use Rattle.law_frame.proofs.pg_run.pg_house.Fullness.{rules_full}
+use Rattle.law_frame.proofs.pg_run.pg_house.Keys.{rules_keys}
+use Rattle.law_frame.proofs.pg_run.pg_house.Ordered.{rules_ordered}
 use Rattle.law_order.specs.Sound.{AreTidy}
 use Rattle.law_order.proofs.Changes.{ordered_update}
 

@@ -2,28 +2,28 @@
 use Rattle.std.specs.Prelude.{ℕ, ◌≡◌, ◌<◌, ◌^◌, true, false, Contains, List, Some, None, [], length}
 use Rattle.std.specs.List.Sorted.{IsStrictlySortedBy}
 use Rattle.std.specs.Map.{keys_of}
-use Rattle.pg_run.specs.pg_base.declared.id.FileId.{FileId}
-use Rattle.pg_run.specs.pg_base.declared.id.Kind.{Kind}
-use Rattle.pg_run.specs.pg_base.Id.{file_cmp}
-use Rattle.pg_run.specs.pg_entries.declared.entry.Entry.{Entry}
-use Rattle.pg_run.specs.pg_event.declared.event.Event.{Event}
-use Rattle.pg_run.specs.pg_house.Cycles.{is_lost}
-use Rattle.pg_run.specs.pg_house.Facts.{AreOrdered, is_among}
-use Rattle.pg_run.specs.pg_msg.declared.message.Sent.{Sent}
-use Rattle.pg_run.specs.pg_names.declared.attributes.Attributes.{Attributes}
-use Rattle.pg_run.specs.pg_names.Names.{InodeValue, NamesValue, cell_at, directories, is_dir, known, own_at}
-use Rattle.pg_run.specs.pg_register.Place.{root, root_place}
-use Rattle.pg_run.specs.pg_calls.Naming.{next_id}
-use Rattle.pg_run.specs.theory_flood_pieces.Whole.{IsWhole}
-use Rattle.pg_run.specs.pg_server.Local.{first_effect}
-use Rattle.pg_run.specs.pg_store.declared.store.Store.{Store}
-use Rattle.pg_run.specs.pg_store.Beginning.{patches_of}
-use Rattle.pg_run.specs.pg_store.Births.{fill_at}
-use Rattle.pg_run.specs.pg_store.Store.{is_held}
-use Rattle.pg_run.specs.pg_store.Together.{AreBirths}
-use Rattle.pg_run.specs.Journal.{mail}
-use Rattle.pg_run.specs.Laws.{AtEach, HouseIsInOrder, ShowsDistinctNames, names_after, store_after}
-use Rattle.pg_run.specs.Run.{Taking, World, run, taking_in}
+use Rattle.law_frame.specs.pg_run.pg_base.declared.id.FileId.{FileId}
+use Rattle.law_frame.specs.pg_run.pg_base.declared.id.Kind.{Kind}
+use Rattle.law_frame.specs.pg_run.pg_base.Id.{file_cmp}
+use Rattle.law_frame.specs.pg_run.pg_entries.declared.entry.Entry.{Entry}
+use Rattle.law_frame.specs.pg_run.pg_event.declared.event.Event.{Event}
+use Rattle.law_frame.specs.pg_run.pg_house.Cycles.{is_lost}
+use Rattle.law_frame.specs.pg_run.pg_house.Facts.{AreOrdered, is_among}
+use Rattle.law_frame.specs.pg_run.pg_msg.declared.message.Sent.{Sent}
+use Rattle.law_frame.specs.pg_run.pg_names.declared.attributes.Attributes.{Attributes}
+use Rattle.law_frame.specs.pg_run.pg_names.Names.{InodeValue, NamesValue, cell_at, directories, is_dir, known, own_at}
+use Rattle.law_frame.specs.pg_run.pg_register.Place.{root, root_place}
+use Rattle.law_frame.specs.pg_run.pg_calls.Naming.{next_id}
+use Rattle.law_frame.specs.pg_run.theory_flood_pieces.Whole.{IsWhole}
+use Rattle.law_frame.specs.pg_run.pg_server.Local.{first_effect}
+use Rattle.law_frame.specs.pg_run.pg_store.declared.store.Store.{Store}
+use Rattle.law_frame.specs.pg_run.pg_store.Beginning.{patches_of}
+use Rattle.law_frame.specs.pg_run.pg_store.Births.{fill_at}
+use Rattle.law_frame.specs.pg_run.pg_store.Store.{is_held}
+use Rattle.law_frame.specs.pg_run.pg_store.Together.{AreBirths}
+use Rattle.law_frame.specs.pg_run.Journal.{mail}
+use Rattle.law_frame.specs.pg_run.Laws.{AtEach, HouseIsInOrder, ShowsDistinctNames, names_after, store_after}
+use Rattle.law_frame.specs.pg_run.Run.{Taking, World, run, taking_in}
 use Rattle.law_order.specs.Named.{naming}
 use Rattle.law_order.specs.Saying.{AreIntended, IsSaidOf, IsSaidOfMessage}
 

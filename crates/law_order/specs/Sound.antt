@@ -2,17 +2,17 @@
 use Rattle.std.specs.Prelude.{ℕ, ◌≡◌, true, false, length}
 use Rattle.std.specs.List.Sorted.{IsStrictlySortedBy}
 use Rattle.std.specs.Map.{keys_of}
-use Rattle.pg_run.specs.pg_base.declared.id.FileId.{FileId}
-use Rattle.pg_run.specs.pg_base.Id.{file_cmp}
-use Rattle.pg_run.specs.pg_register.Place.{root}
-use Rattle.pg_run.specs.pg_names.Names.{NamesValue, directories, is_full}
-use Rattle.pg_run.specs.pg_house.Cycles.{is_lost}
-use Rattle.pg_run.specs.pg_house.Facts.{AreOrdered, is_among}
-use Rattle.pg_run.specs.theory_flood_pieces.Whole.{IsWhole}
-use Rattle.pg_run.specs.pg_intent.Intents.{HaveOwnKeys}
-use Rattle.pg_run.specs.pg_store.declared.store.Store.{Store}
-use Rattle.pg_run.specs.pg_store.Together.{AreBirths}
-use Rattle.pg_run.specs.Laws.{IsInOrder}
+use Rattle.law_frame.specs.pg_run.pg_base.declared.id.FileId.{FileId}
+use Rattle.law_frame.specs.pg_run.pg_base.Id.{file_cmp}
+use Rattle.law_frame.specs.pg_run.pg_register.Place.{root}
+use Rattle.law_frame.specs.pg_run.pg_names.Names.{NamesValue, directories, is_full}
+use Rattle.law_frame.specs.pg_run.pg_house.Cycles.{is_lost}
+use Rattle.law_frame.specs.pg_run.pg_house.Facts.{AreOrdered, is_among}
+use Rattle.law_frame.specs.pg_run.theory_flood_pieces.Whole.{IsWhole}
+use Rattle.law_frame.specs.pg_run.pg_intent.Intents.{HaveOwnKeys}
+use Rattle.law_frame.specs.pg_run.pg_store.declared.store.Store.{Store}
+use Rattle.law_frame.specs.pg_run.pg_store.Together.{AreBirths}
+use Rattle.law_frame.specs.pg_run.Laws.{IsInOrder}
 use Rattle.law_order.specs.Saying.{AreIntended, IsSaidOf, Saying}
 
 -- things and the entries of each directory are by id, and the root is held, full

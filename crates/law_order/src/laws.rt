@@ -1,7 +1,7 @@
 //! What holds of names along every run. Each law is a clause of a function that does nothing.
 
 ghost use Rattle.std.specs.Prelude.{ℕ};
-ghost use Rattle.pg_run.specs.Away.{DirectoriesAreTold, WhatBeginsIsAway};
+ghost use Rattle.law_frame.specs.pg_run.Away.{DirectoriesAreTold, WhatBeginsIsAway};
 ghost use Rattle.law_order.specs.Laws.{AllIsNamed, BirthsAreGiven, FirstEffectsAreOrdered, FirstEffectsAreWhole, HouseStaysInOrder, NamesAreById, NamesAreDistinct, NextIdsAreNew, ServersAreWhole, ThingsArePlacedWell};
 
 /// After every event each server's names are as the house rules ask: all things have passed, no

@@ -4,66 +4,66 @@ use Rattle.std.proofs.Common.{ℕ, ◌≡◌, ◌==◌, Bool, true, false, List,
 use Rattle.std.specs.List.{flat_map}
 use Rattle.std.proofs.lemmas.List.Elements.{All-append, All-cons, All-nil}
 use Rattle.std.proofs.lemmas.Option.{none-some, same_Some}
-use Rattle.pg_run.specs.pg_base.declared.id.FileId.{FileId}
-use Rattle.pg_run.specs.pg_base.Id.{is_same_file}
-use Rattle.pg_run.specs.pg_base.Version.{VersionValue}
-use Rattle.pg_run.specs.pg_edges.declared.edge.Edge.{Edge}
-use Rattle.pg_run.specs.pg_edges.declared.key.Key.{Key}
-use Rattle.pg_run.specs.pg_edges.declared.key.Key.TheVariants as key
-use Rattle.pg_run.specs.pg_entries.declared.cell.Cell.{Cell}
-use Rattle.pg_run.specs.pg_entries.declared.cell.Cell.TheVariants as cells
-use Rattle.pg_run.specs.pg_entries.declared.entry.Entry.{Entry}
-use Rattle.pg_run.specs.pg_house.Work.{State, state_of}
-use Rattle.pg_run.specs.pg_house.House.{house}
-use Rattle.pg_run.specs.pg_house.Facts.{IsKnownPlace}
-use Rattle.pg_run.proofs.pg_house.Drawn.{IsDrawn, drawn_on, house_drawn, house_later}
-use Rattle.pg_run.proofs.pg_house.Noting.{one_front}
-use Rattle.pg_run.proofs.pg_house.Replaced.{cell_children, cell_places, made_stays, noted, own_places}
-use Rattle.pg_run.specs.pg_intent.declared.intent.Intent.{Intent}
-use Rattle.pg_run.specs.pg_intent.declared.intent.Intent.TheVariants as intent
-use Rattle.pg_run.specs.pg_intent.declared.key.IntentKey.{IntentKey}
-use Rattle.pg_run.specs.pg_intent.declared.key.IntentKey.TheVariants as intent_key
-use Rattle.pg_run.specs.pg_intent.Intent.{target_of}
-use Rattle.pg_run.specs.pg_intent.Intents.{aimed, intent_at}
-use Rattle.pg_run.specs.pg_msg.declared.message.Message.{Message}
-use Rattle.pg_run.specs.pg_msg.declared.message.Message.TheVariants as message
-use Rattle.pg_run.specs.pg_msg.declared.message.Sent.{Sent}
-use Rattle.pg_run.specs.pg_msg.declared.update.Update.{Update}
-use Rattle.pg_run.specs.pg_msg.declared.update.Update.TheVariants as update
-use Rattle.pg_run.specs.pg_msg.declared.work.Touched.{Touched}
-use Rattle.pg_run.specs.pg_msg.declared.work.Work.{Work}
-use Rattle.pg_run.specs.pg_msg.Work.{with_made}
-use Rattle.pg_run.specs.pg_names.declared.attributes.Attributes.{Attributes}
-use Rattle.pg_run.specs.pg_names.Names.{NamesValue, cell_at as entry_at, own_at, own_or_blank}
-use Rattle.pg_run.proofs.theory_flood_pieces.Choices.{All-flat_map, chosen}
-use Rattle.pg_run.proofs.theory_flood_pieces.Front.{house_sent}
-use Rattle.pg_run.specs.pg_register.declared.flag.Flag.{Flag}
-use Rattle.pg_run.specs.pg_register.declared.place.Place.{Place}
-use Rattle.pg_run.specs.pg_register.Flag.{flag_of}
-use Rattle.pg_run.specs.pg_register.Place.{blank_place, root}
-use Rattle.pg_run.specs.pg_replica.declared.replica.Replica.{Replica}
-use Rattle.pg_run.specs.pg_replica.Replica.{cell_at as head_at}
-use Rattle.pg_run.specs.pg_store.declared.store.Store.{Store}
-use Rattle.pg_run.specs.pg_store.Births.{with_birth, with_wishes}
-use Rattle.pg_run.specs.pg_store.Cells.{cell_at, entry_cell, flag_cell, is_sure, version_cell}
-use Rattle.pg_run.specs.pg_store.Store.{content_of, with_names}
-use Rattle.pg_run.specs.pg_store.Wishes.{without_wish}
-use Rattle.pg_run.specs.pg_pieces.Done.{Done, idle}
-use Rattle.pg_run.specs.pg_pieces.Making.{own_next, raise_flag}
-use Rattle.pg_run.specs.pg_pieces.Posting.{sent_to}
-use Rattle.pg_run.specs.pg_cells.Sending.{Wanted, cell_to, cell_under, cells_where, edge_cells, is_any, is_chosen, key_cell, replica_cells, waits}
-use Rattle.pg_run.specs.pg_cells.Settling.{ruled, rules, touch_all}
-use Rattle.pg_run.specs.pg_cells.Ticks.{tick}
-use Rattle.pg_run.proofs.pg_cells.Settled.{settle_keeps}
-use Rattle.pg_run.specs.pg_intentions.Beginning.{end_others, still_stands}
-use Rattle.pg_run.specs.pg_intentions.Confirms.{confirm_of}
-use Rattle.pg_run.specs.pg_intentions.Fills.{fill_of, files_to_fill, with_fill_birth}
-use Rattle.pg_run.specs.pg_intentions.Intending.{pieces}
-use Rattle.pg_run.specs.pg_intentions.Patches.{patch_of}
-use Rattle.pg_run.specs.pg_intentions.Requests.{ask_all, asked_of, asks, asks_by, confirm_message, leave_message, request}
-use Rattle.pg_run.specs.pg_intentions.Seeks.{seek_target}
-use Rattle.pg_run.specs.pg_server.Local.{intended, sent_at_end, settled}
-use Rattle.pg_run.proofs.Still.{flag_still}
+use Rattle.law_frame.specs.pg_run.pg_base.declared.id.FileId.{FileId}
+use Rattle.law_frame.specs.pg_run.pg_base.Id.{is_same_file}
+use Rattle.law_frame.specs.pg_run.pg_base.Version.{VersionValue}
+use Rattle.law_frame.specs.pg_run.pg_edges.declared.edge.Edge.{Edge}
+use Rattle.law_frame.specs.pg_run.pg_edges.declared.key.Key.{Key}
+use Rattle.law_frame.specs.pg_run.pg_edges.declared.key.Key.TheVariants as key
+use Rattle.law_frame.specs.pg_run.pg_entries.declared.cell.Cell.{Cell}
+use Rattle.law_frame.specs.pg_run.pg_entries.declared.cell.Cell.TheVariants as cells
+use Rattle.law_frame.specs.pg_run.pg_entries.declared.entry.Entry.{Entry}
+use Rattle.law_frame.specs.pg_run.pg_house.Work.{State, state_of}
+use Rattle.law_frame.specs.pg_run.pg_house.House.{house}
+use Rattle.law_frame.specs.pg_run.pg_house.Facts.{IsKnownPlace}
+use Rattle.law_frame.proofs.pg_run.pg_house.Drawn.{IsDrawn, drawn_on, house_drawn, house_later}
+use Rattle.law_frame.proofs.pg_run.pg_house.Noting.{one_front}
+use Rattle.law_frame.proofs.pg_run.pg_house.Replaced.{cell_children, cell_places, made_stays, noted, own_places}
+use Rattle.law_frame.specs.pg_run.pg_intent.declared.intent.Intent.{Intent}
+use Rattle.law_frame.specs.pg_run.pg_intent.declared.intent.Intent.TheVariants as intent
+use Rattle.law_frame.specs.pg_run.pg_intent.declared.key.IntentKey.{IntentKey}
+use Rattle.law_frame.specs.pg_run.pg_intent.declared.key.IntentKey.TheVariants as intent_key
+use Rattle.law_frame.specs.pg_run.pg_intent.Intent.{target_of}
+use Rattle.law_frame.specs.pg_run.pg_intent.Intents.{aimed, intent_at}
+use Rattle.law_frame.specs.pg_run.pg_msg.declared.message.Message.{Message}
+use Rattle.law_frame.specs.pg_run.pg_msg.declared.message.Message.TheVariants as message
+use Rattle.law_frame.specs.pg_run.pg_msg.declared.message.Sent.{Sent}
+use Rattle.law_frame.specs.pg_run.pg_msg.declared.update.Update.{Update}
+use Rattle.law_frame.specs.pg_run.pg_msg.declared.update.Update.TheVariants as update
+use Rattle.law_frame.specs.pg_run.pg_msg.declared.work.Touched.{Touched}
+use Rattle.law_frame.specs.pg_run.pg_msg.declared.work.Work.{Work}
+use Rattle.law_frame.specs.pg_run.pg_msg.Work.{with_made}
+use Rattle.law_frame.specs.pg_run.pg_names.declared.attributes.Attributes.{Attributes}
+use Rattle.law_frame.specs.pg_run.pg_names.Names.{NamesValue, cell_at as entry_at, own_at, own_or_blank}
+use Rattle.law_frame.proofs.pg_run.theory_flood_pieces.Choices.{All-flat_map, chosen}
+use Rattle.law_frame.proofs.pg_run.theory_flood_pieces.Front.{house_sent}
+use Rattle.law_frame.specs.pg_run.pg_register.declared.flag.Flag.{Flag}
+use Rattle.law_frame.specs.pg_run.pg_register.declared.place.Place.{Place}
+use Rattle.law_frame.specs.pg_run.pg_register.Flag.{flag_of}
+use Rattle.law_frame.specs.pg_run.pg_register.Place.{blank_place, root}
+use Rattle.law_frame.specs.pg_run.pg_replica.declared.replica.Replica.{Replica}
+use Rattle.law_frame.specs.pg_run.pg_replica.Replica.{cell_at as head_at}
+use Rattle.law_frame.specs.pg_run.pg_store.declared.store.Store.{Store}
+use Rattle.law_frame.specs.pg_run.pg_store.Births.{with_birth, with_wishes}
+use Rattle.law_frame.specs.pg_run.pg_store.Cells.{cell_at, entry_cell, flag_cell, is_sure, version_cell}
+use Rattle.law_frame.specs.pg_run.pg_store.Store.{content_of, with_names}
+use Rattle.law_frame.specs.pg_run.pg_store.Wishes.{without_wish}
+use Rattle.law_frame.specs.pg_run.pg_pieces.Done.{Done, idle}
+use Rattle.law_frame.specs.pg_run.pg_pieces.Making.{own_next, raise_flag}
+use Rattle.law_frame.specs.pg_run.pg_pieces.Posting.{sent_to}
+use Rattle.law_frame.specs.pg_run.pg_cells.Sending.{Wanted, cell_to, cell_under, cells_where, edge_cells, is_any, is_chosen, key_cell, replica_cells, waits}
+use Rattle.law_frame.specs.pg_run.pg_cells.Settling.{ruled, rules, touch_all}
+use Rattle.law_frame.specs.pg_run.pg_cells.Ticks.{tick}
+use Rattle.law_frame.proofs.pg_run.pg_cells.Settled.{settle_keeps}
+use Rattle.law_frame.specs.pg_run.pg_intentions.Beginning.{end_others, still_stands}
+use Rattle.law_frame.specs.pg_run.pg_intentions.Confirms.{confirm_of}
+use Rattle.law_frame.specs.pg_run.pg_intentions.Fills.{fill_of, files_to_fill, with_fill_birth}
+use Rattle.law_frame.specs.pg_run.pg_intentions.Intending.{pieces}
+use Rattle.law_frame.specs.pg_run.pg_intentions.Patches.{patch_of}
+use Rattle.law_frame.specs.pg_run.pg_intentions.Requests.{ask_all, asked_of, asks, asks_by, confirm_message, leave_message, request}
+use Rattle.law_frame.specs.pg_run.pg_intentions.Seeks.{seek_target}
+use Rattle.law_frame.specs.pg_run.pg_server.Local.{intended, sent_at_end, settled}
+use Rattle.law_frame.proofs.pg_run.Still.{flag_still}
 use Rattle.law_frame.proofs.Ended.{fill_born, intents_keep}
 use Rattle.law_places.proofs.Origins.{IsMade}
 use Rattle.law_places.proofs.Fine.{AreKnown, IsFine, as_before, intending, raised_flag, same_drawn}

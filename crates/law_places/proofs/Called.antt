@@ -1,61 +1,61 @@
 -- What comes of each call: each place that is known then, and each that is told, may stand, where
 -- the one that it makes may. It makes at most one, with the stamp that the server draws.
 use Rattle.std.proofs.Common.{ℕ, ◌≡◌, ◌≤◌, ◌<◌, ◌==◌, Bool, true, false, if◌then◌else◌, List, [], ◌∷◌, ◌++◌, Option, None, Some, Result, Ok, Err, refl, sym, ap, subst, ◌∙◌, inl, arith}
-use Rattle.pg_run.specs.pg_base.declared.id.FileId.{FileId}
-use Rattle.pg_run.specs.pg_base.declared.id.Kind.{Kind}
-use Rattle.pg_run.specs.pg_base.declared.id.Kind.TheVariants.{Dir, File}
-use Rattle.pg_run.specs.pg_base.declared.policy.Policy.{Policy}
-use Rattle.pg_run.specs.pg_base.declared.policy.Policy.TheVariants.{Last}
-use Rattle.pg_run.specs.pg_base.declared.stamp.Stamp.{Stamp}
-use Rattle.pg_run.specs.pg_base.Id.{is_same_file}
-use Rattle.pg_run.proofs.pg_base.Orders.{is_same_file-true}
-use Rattle.pg_run.specs.pg_call.declared.call.Call.{Call}
-use Rattle.pg_run.specs.pg_call.declared.call.Call.TheVariants as call
-use Rattle.pg_run.specs.pg_call.declared.refusal.Refusal.TheVariants.{Loop, NotEmpty, Root}
-use Rattle.pg_run.specs.pg_call.declared.reply.Reply.{Reply}
-use Rattle.pg_run.specs.pg_call.declared.reply.Reply.TheVariants as reply
-use Rattle.pg_run.specs.pg_house.Facts.{IsHeld}
-use Rattle.pg_run.specs.pg_house.Work.{is_root}
-use Rattle.pg_run.proofs.pg_house.Lasting.{drawn_late}
-use Rattle.pg_run.specs.pg_msg.declared.message.Message.TheVariants as message
-use Rattle.pg_run.specs.pg_msg.declared.update.Update.{Update}
-use Rattle.pg_run.specs.pg_msg.declared.update.Update.TheVariants as update
-use Rattle.pg_run.specs.pg_msg.declared.work.Work.{Work}
-use Rattle.pg_run.specs.pg_msg.Work.{new_work}
-use Rattle.pg_run.specs.pg_names.Names.{blank_own, is_dir, is_full, known}
-use Rattle.pg_run.specs.pg_patch.Ranges.{RangesValue, cut_to, written}
-use Rattle.pg_run.proofs.theory_flood_pieces.Choices.{chosen}
-use Rattle.pg_run.specs.pg_register.declared.flag.Flag.{Flag}
-use Rattle.pg_run.specs.pg_register.declared.place.Place.{Place}
-use Rattle.pg_run.specs.pg_register.Place.{blank_place, root}
-use Rattle.pg_run.specs.pg_store.declared.store.Store.{Store}
-use Rattle.pg_run.specs.pg_store.declared.wishes.Wish.{Wish}
-use Rattle.pg_run.specs.pg_store.Births.{draw_birth, with_birth, with_wish}
-use Rattle.pg_run.specs.pg_store.Store.{write}
-use Rattle.pg_run.specs.pg_lookup.declared.paths.Found.{Found}
-use Rattle.pg_run.specs.pg_lookup.declared.paths.LookupError.{LookupError}
-use Rattle.pg_run.specs.pg_lookup.declared.paths.LookupError.TheVariants as stop
-use Rattle.pg_run.specs.pg_lookup.Chain.{is_above}
-use Rattle.pg_run.specs.pg_lookup.Walk.{and_then, reach, reach_parent}
-use Rattle.pg_run.specs.pg_pieces.Done.{Done, idle}
-use Rattle.pg_run.specs.pg_pieces.Golds.{is_gold}
-use Rattle.pg_run.specs.pg_pieces.Making.{lower_flag, own_next}
-use Rattle.pg_run.specs.pg_checks.declared.checks.Move.{Move}
-use Rattle.pg_run.specs.pg_checks.declared.checks.NewName.{NewName}
-use Rattle.pg_run.specs.pg_checks.Answer.{Answer, answer, answered, deny, replied, told, unless}
-use Rattle.pg_run.specs.pg_checks.Asking.{ask_by, fetch, fresh_wish, holder, standing}
-use Rattle.pg_run.specs.pg_calls.Bodies.{change, change_file, when_fit}
-use Rattle.pg_run.specs.pg_calls.Calls.{do_call}
-use Rattle.pg_run.specs.pg_checks.Checks.{dir_at, empty_dir_at, file_at, first_child, in_time, move_along, move_of, move_to, new_name, new_name_in, target_at, unless_child}
-use Rattle.pg_run.specs.pg_calls.Demoting.{demoted_at}
-use Rattle.pg_run.specs.pg_calls.Dropping.{clean_gold, dropped_at, leave_of, leaving}
-use Rattle.pg_run.specs.pg_calls.Forgetting.{lost_at}
-use Rattle.pg_run.specs.pg_calls.GivingUp.{removal_at}
-use Rattle.pg_run.specs.pg_calls.Making.{drawn, first_ranges, make_place, make_version, version_of, with_version}
-use Rattle.pg_run.specs.pg_calls.Naming.{begun, dead_place, next_id, place_in, with_first_version, with_id, with_thing}
-use Rattle.pg_run.specs.pg_checks.Paths.{paths_of}
-use Rattle.pg_run.proofs.pg_calls.Checked.{behind, no_ok, same_ok, unless_ok}
-use Rattle.pg_run.proofs.pg_calls.Walked.{file_found, full_own, reach_ok, thing_found}
+use Rattle.law_frame.specs.pg_run.pg_base.declared.id.FileId.{FileId}
+use Rattle.law_frame.specs.pg_run.pg_base.declared.id.Kind.{Kind}
+use Rattle.law_frame.specs.pg_run.pg_base.declared.id.Kind.TheVariants.{Dir, File}
+use Rattle.law_frame.specs.pg_run.pg_base.declared.policy.Policy.{Policy}
+use Rattle.law_frame.specs.pg_run.pg_base.declared.policy.Policy.TheVariants.{Last}
+use Rattle.law_frame.specs.pg_run.pg_base.declared.stamp.Stamp.{Stamp}
+use Rattle.law_frame.specs.pg_run.pg_base.Id.{is_same_file}
+use Rattle.law_frame.proofs.pg_run.pg_base.Orders.{is_same_file-true}
+use Rattle.law_frame.specs.pg_run.pg_call.declared.call.Call.{Call}
+use Rattle.law_frame.specs.pg_run.pg_call.declared.call.Call.TheVariants as call
+use Rattle.law_frame.specs.pg_run.pg_call.declared.refusal.Refusal.TheVariants.{Loop, NotEmpty, Root}
+use Rattle.law_frame.specs.pg_run.pg_call.declared.reply.Reply.{Reply}
+use Rattle.law_frame.specs.pg_run.pg_call.declared.reply.Reply.TheVariants as reply
+use Rattle.law_frame.specs.pg_run.pg_house.Facts.{IsHeld}
+use Rattle.law_frame.specs.pg_run.pg_house.Work.{is_root}
+use Rattle.law_frame.proofs.pg_run.pg_house.Lasting.{drawn_late}
+use Rattle.law_frame.specs.pg_run.pg_msg.declared.message.Message.TheVariants as message
+use Rattle.law_frame.specs.pg_run.pg_msg.declared.update.Update.{Update}
+use Rattle.law_frame.specs.pg_run.pg_msg.declared.update.Update.TheVariants as update
+use Rattle.law_frame.specs.pg_run.pg_msg.declared.work.Work.{Work}
+use Rattle.law_frame.specs.pg_run.pg_msg.Work.{new_work}
+use Rattle.law_frame.specs.pg_run.pg_names.Names.{blank_own, is_dir, is_full, known}
+use Rattle.law_frame.specs.pg_run.pg_patch.Ranges.{RangesValue, cut_to, written}
+use Rattle.law_frame.proofs.pg_run.theory_flood_pieces.Choices.{chosen}
+use Rattle.law_frame.specs.pg_run.pg_register.declared.flag.Flag.{Flag}
+use Rattle.law_frame.specs.pg_run.pg_register.declared.place.Place.{Place}
+use Rattle.law_frame.specs.pg_run.pg_register.Place.{blank_place, root}
+use Rattle.law_frame.specs.pg_run.pg_store.declared.store.Store.{Store}
+use Rattle.law_frame.specs.pg_run.pg_store.declared.wishes.Wish.{Wish}
+use Rattle.law_frame.specs.pg_run.pg_store.Births.{draw_birth, with_birth, with_wish}
+use Rattle.law_frame.specs.pg_run.pg_store.Store.{write}
+use Rattle.law_frame.specs.pg_run.pg_lookup.declared.paths.Found.{Found}
+use Rattle.law_frame.specs.pg_run.pg_lookup.declared.paths.LookupError.{LookupError}
+use Rattle.law_frame.specs.pg_run.pg_lookup.declared.paths.LookupError.TheVariants as stop
+use Rattle.law_frame.specs.pg_run.pg_lookup.Chain.{is_above}
+use Rattle.law_frame.specs.pg_run.pg_lookup.Walk.{and_then, reach, reach_parent}
+use Rattle.law_frame.specs.pg_run.pg_pieces.Done.{Done, idle}
+use Rattle.law_frame.specs.pg_run.pg_pieces.Golds.{is_gold}
+use Rattle.law_frame.specs.pg_run.pg_pieces.Making.{lower_flag, own_next}
+use Rattle.law_frame.specs.pg_run.pg_checks.declared.checks.Move.{Move}
+use Rattle.law_frame.specs.pg_run.pg_checks.declared.checks.NewName.{NewName}
+use Rattle.law_frame.specs.pg_run.pg_checks.Answer.{Answer, answer, answered, deny, replied, told, unless}
+use Rattle.law_frame.specs.pg_run.pg_checks.Asking.{ask_by, fetch, fresh_wish, holder, standing}
+use Rattle.law_frame.specs.pg_run.pg_calls.Bodies.{change, change_file, when_fit}
+use Rattle.law_frame.specs.pg_run.pg_calls.Calls.{do_call}
+use Rattle.law_frame.specs.pg_run.pg_checks.Checks.{dir_at, empty_dir_at, file_at, first_child, in_time, move_along, move_of, move_to, new_name, new_name_in, target_at, unless_child}
+use Rattle.law_frame.specs.pg_run.pg_calls.Demoting.{demoted_at}
+use Rattle.law_frame.specs.pg_run.pg_calls.Dropping.{clean_gold, dropped_at, leave_of, leaving}
+use Rattle.law_frame.specs.pg_run.pg_calls.Forgetting.{lost_at}
+use Rattle.law_frame.specs.pg_run.pg_calls.GivingUp.{removal_at}
+use Rattle.law_frame.specs.pg_run.pg_calls.Making.{drawn, first_ranges, make_place, make_version, version_of, with_version}
+use Rattle.law_frame.specs.pg_run.pg_calls.Naming.{begun, dead_place, next_id, place_in, with_first_version, with_id, with_thing}
+use Rattle.law_frame.specs.pg_run.pg_checks.Paths.{paths_of}
+use Rattle.law_frame.proofs.pg_run.pg_calls.Checked.{behind, no_ok, same_ok, unless_ok}
+use Rattle.law_frame.proofs.pg_run.pg_calls.Walked.{file_found, full_own, reach_ok, thing_found}
 use Rattle.law_places.proofs.Origins.{IsMade}
 use Rattle.law_places.proofs.Begun.{begin_fine}
 use Rattle.law_places.proofs.Leaving.{intent_begun}

@@ -2,27 +2,27 @@
 -- where those that it makes may; and what these are.
 use Rattle.std.proofs.Common.{ℕ, ◌≡◌, ◌≤◌, false, Option, refl, sym, subst, All, arith}
 use Rattle.std.proofs.lemmas.List.Elements.{All-nil}
-use Rattle.pg_run.specs.pg_base.declared.id.FileId.{FileId}
-use Rattle.pg_run.specs.pg_base.Id.{is_same_file}
-use Rattle.pg_run.specs.pg_call.declared.reply.Reply.{Reply}
-use Rattle.pg_run.specs.pg_house.Work.{State, state_of}
-use Rattle.pg_run.proofs.pg_house.Drawn.{IsDrawn, drawn_on}
-use Rattle.pg_run.specs.pg_msg.Work.{new_work}
-use Rattle.pg_run.proofs.theory_flood_pieces.Choices.{chosen}
-use Rattle.pg_run.specs.pg_register.declared.place.Place.{Place}
-use Rattle.pg_run.specs.pg_register.Place.{blank_place, root}
-use Rattle.pg_run.proofs.pg_intentions.Steady.{begin_end_stays}
-use Rattle.pg_run.specs.pg_server.declared.input.Input.{Input}
-use Rattle.pg_run.specs.pg_server.declared.input.Input.TheVariants as input
-use Rattle.pg_run.specs.pg_server.Local.{Effect, closed, effect, finished, first_effect, intended, is_heard, receive, reply_to, settled, takes_effect, ticked, without_sources, without_volatile}
-use Rattle.pg_run.specs.pg_store.declared.store.Store.{Store}
-use Rattle.pg_run.specs.pg_store.Seen.{server_of}
-use Rattle.pg_run.specs.pg_store.Store.{is_before_clock_end}
-use Rattle.pg_run.specs.pg_pieces.Done.{Done, idle}
-use Rattle.pg_run.specs.pg_cells.Ticks.{tick}
-use Rattle.pg_run.specs.pg_intentions.Requests.{ask_all}
-use Rattle.pg_run.proofs.Event.{nothing_last}
-use Rattle.pg_run.proofs.LastWalks.{lasts_have}
+use Rattle.law_frame.specs.pg_run.pg_base.declared.id.FileId.{FileId}
+use Rattle.law_frame.specs.pg_run.pg_base.Id.{is_same_file}
+use Rattle.law_frame.specs.pg_run.pg_call.declared.reply.Reply.{Reply}
+use Rattle.law_frame.specs.pg_run.pg_house.Work.{State, state_of}
+use Rattle.law_frame.proofs.pg_run.pg_house.Drawn.{IsDrawn, drawn_on}
+use Rattle.law_frame.specs.pg_run.pg_msg.Work.{new_work}
+use Rattle.law_frame.proofs.pg_run.theory_flood_pieces.Choices.{chosen}
+use Rattle.law_frame.specs.pg_run.pg_register.declared.place.Place.{Place}
+use Rattle.law_frame.specs.pg_run.pg_register.Place.{blank_place, root}
+use Rattle.law_frame.proofs.pg_run.pg_intentions.Steady.{begin_end_stays}
+use Rattle.law_frame.specs.pg_run.pg_server.declared.input.Input.{Input}
+use Rattle.law_frame.specs.pg_run.pg_server.declared.input.Input.TheVariants as input
+use Rattle.law_frame.specs.pg_run.pg_server.Local.{Effect, closed, effect, finished, first_effect, intended, is_heard, receive, reply_to, settled, takes_effect, ticked, without_sources, without_volatile}
+use Rattle.law_frame.specs.pg_run.pg_store.declared.store.Store.{Store}
+use Rattle.law_frame.specs.pg_run.pg_store.Seen.{server_of}
+use Rattle.law_frame.specs.pg_run.pg_store.Store.{is_before_clock_end}
+use Rattle.law_frame.specs.pg_run.pg_pieces.Done.{Done, idle}
+use Rattle.law_frame.specs.pg_run.pg_cells.Ticks.{tick}
+use Rattle.law_frame.specs.pg_run.pg_intentions.Requests.{ask_all}
+use Rattle.law_frame.proofs.pg_run.Event.{nothing_last}
+use Rattle.law_frame.proofs.pg_run.LastWalks.{lasts_have}
 use Rattle.law_places.proofs.Origins.{IsMade}
 use Rattle.law_places.proofs.Behind.{MayMake, again_fine, ends_told, intended_fine, settle_fine, settle_made}
 use Rattle.law_places.proofs.Called.{called}

@@ -1,36 +1,36 @@
 -- What comes of each message: each place that is known then, and each that is told, may stand.
 use Rattle.std.proofs.Common.{ℕ, ◌≡◌, ◌&&◌, false, not, refl, sym, subst, arith}
 use Rattle.std.specs.Prelude.{nat_lt}
-use Rattle.pg_run.proofs.pg_names.Lookups.{update_frame}
-use Rattle.pg_run.proofs.theory_flood_pieces.Choices.{chosen}
-use Rattle.pg_run.specs.pg_base.Id.{is_same_file}
-use Rattle.pg_run.specs.pg_base.declared.id.FileId.{FileId}
-use Rattle.pg_run.specs.pg_graph.Leaving.{bye_to, without_leave}
-use Rattle.pg_run.specs.pg_intent.Intents.{aimed, ended}
-use Rattle.pg_run.specs.pg_intent.declared.key.IntentKey.TheVariants as intent_key
-use Rattle.pg_run.specs.pg_msg.Work.{with_tail}
-use Rattle.pg_run.specs.pg_msg.declared.message.Granted.{Granted}
-use Rattle.pg_run.specs.pg_msg.declared.message.Message.TheVariants as message
-use Rattle.pg_run.specs.pg_msg.declared.message.Message.{Message}
-use Rattle.pg_run.specs.pg_msg.declared.summary.Greeting.TheVariants as greeting
-use Rattle.pg_run.specs.pg_msg.declared.work.Work.{Work}
-use Rattle.pg_run.specs.pg_names.Names as names
-use Rattle.pg_run.specs.pg_names.Names.{is_dir, own_or_blank}
-use Rattle.pg_run.specs.pg_pieces.Accepting.{ends_to}
-use Rattle.pg_run.specs.pg_pieces.Done.{Done, idle, link_of}
-use Rattle.pg_run.specs.pg_pieces.Making.{raise_flag}
-use Rattle.pg_run.specs.pg_pieces.Posting.{sent_to}
-use Rattle.pg_run.specs.pg_register.Place.{blank_place, root}
-use Rattle.pg_run.specs.pg_register.declared.place.Place.{Place}
-use Rattle.pg_run.specs.pg_repair.Fetching.{place_to_grant}
-use Rattle.pg_run.specs.pg_repair.Filling.{few_golds, fill, live_golds, raise_if_few}
-use Rattle.pg_run.specs.pg_repair.Granting.{granted_own}
-use Rattle.pg_run.specs.pg_server.Local.{receive}
-use Rattle.pg_run.specs.pg_server.pg_transfer.Asking.{with_notes}
-use Rattle.pg_run.specs.pg_store.Births.{birth_of, with_wishes}
-use Rattle.pg_run.specs.pg_store.Store.{acknowledge, keep_delta, with_names}
-use Rattle.pg_run.specs.pg_store.Wishes.{aim_wish}
-use Rattle.pg_run.specs.pg_store.declared.store.Store.{Store}
+use Rattle.law_frame.proofs.pg_run.pg_names.Lookups.{update_frame}
+use Rattle.law_frame.proofs.pg_run.theory_flood_pieces.Choices.{chosen}
+use Rattle.law_frame.specs.pg_run.pg_base.Id.{is_same_file}
+use Rattle.law_frame.specs.pg_run.pg_base.declared.id.FileId.{FileId}
+use Rattle.law_frame.specs.pg_run.pg_graph.Leaving.{bye_to, without_leave}
+use Rattle.law_frame.specs.pg_run.pg_intent.Intents.{aimed, ended}
+use Rattle.law_frame.specs.pg_run.pg_intent.declared.key.IntentKey.TheVariants as intent_key
+use Rattle.law_frame.specs.pg_run.pg_msg.Work.{with_tail}
+use Rattle.law_frame.specs.pg_run.pg_msg.declared.message.Granted.{Granted}
+use Rattle.law_frame.specs.pg_run.pg_msg.declared.message.Message.TheVariants as message
+use Rattle.law_frame.specs.pg_run.pg_msg.declared.message.Message.{Message}
+use Rattle.law_frame.specs.pg_run.pg_msg.declared.summary.Greeting.TheVariants as greeting
+use Rattle.law_frame.specs.pg_run.pg_msg.declared.work.Work.{Work}
+use Rattle.law_frame.specs.pg_run.pg_names.Names as names
+use Rattle.law_frame.specs.pg_run.pg_names.Names.{is_dir, own_or_blank}
+use Rattle.law_frame.specs.pg_run.pg_pieces.Accepting.{ends_to}
+use Rattle.law_frame.specs.pg_run.pg_pieces.Done.{Done, idle, link_of}
+use Rattle.law_frame.specs.pg_run.pg_pieces.Making.{raise_flag}
+use Rattle.law_frame.specs.pg_run.pg_pieces.Posting.{sent_to}
+use Rattle.law_frame.specs.pg_run.pg_register.Place.{blank_place, root}
+use Rattle.law_frame.specs.pg_run.pg_register.declared.place.Place.{Place}
+use Rattle.law_frame.specs.pg_run.pg_repair.Fetching.{place_to_grant}
+use Rattle.law_frame.specs.pg_run.pg_repair.Filling.{few_golds, fill, live_golds, raise_if_few}
+use Rattle.law_frame.specs.pg_run.pg_repair.Granting.{granted_own}
+use Rattle.law_frame.specs.pg_run.pg_server.Local.{receive}
+use Rattle.law_frame.specs.pg_run.pg_server.pg_transfer.Asking.{with_notes}
+use Rattle.law_frame.specs.pg_run.pg_store.Births.{birth_of, with_wishes}
+use Rattle.law_frame.specs.pg_run.pg_store.Store.{acknowledge, keep_delta, with_names}
+use Rattle.law_frame.specs.pg_run.pg_store.Wishes.{aim_wish}
+use Rattle.law_frame.specs.pg_run.pg_store.declared.store.Store.{Store}
 use Rattle.law_frame.proofs.Keeps.{Answers, Keeps}
 use Rattle.law_frame.proofs.Received.{receive_keeps}
 use Rattle.law_places.proofs.Begun.{begin_fine}

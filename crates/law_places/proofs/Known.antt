@@ -3,28 +3,28 @@
 use Rattle.std.proofs.Common.{ℕ, ◌≡◌, Bool, true, false, cond, ◌&&◌, List, [], ◌∷◌, ◌++◌, Option, None, Some, filter, refl, sym, ap, subst, ◌∙◌, inl, inr, ◌⊎◌}
 use Rattle.std.proofs.lemmas.Option.{none-some, same_Some}
 use Rattle.std.proofs.lemmas.Bool.{and_parts}
-use Rattle.pg_run.specs.pg_base.declared.id.FileId.{FileId}
-use Rattle.pg_run.specs.pg_base.Id.{is_same_file}
-use Rattle.pg_run.specs.pg_base.Stamp.{is_before}
-use Rattle.pg_run.proofs.pg_base.Orders.{is_same_file-true}
-use Rattle.pg_run.specs.pg_entries.declared.entry.Entry.{Entry}
-use Rattle.pg_run.specs.pg_entries.Entry.{joined_to}
-use Rattle.pg_run.specs.pg_house.Facts.{IsHeld}
-use Rattle.pg_run.proofs.pg_house.Truths.{bool_cases}
-use Rattle.pg_run.proofs.theory_flood_pieces.Choices.{chosen}
-use Rattle.pg_run.specs.pg_intent.declared.intent.Intent.{Intent}
-use Rattle.pg_run.specs.pg_intent.declared.intent.Intent.TheVariants as intent
-use Rattle.pg_run.specs.pg_intent.declared.key.IntentKey.{IntentKey}
-use Rattle.pg_run.specs.pg_intent.Intent.{aimed_at, key_of, rejoined}
-use Rattle.pg_run.specs.pg_intent.Intents.{aimed, begun, changed, has_key, intent_at, stands}
-use Rattle.pg_run.specs.pg_names.declared.attributes.Attributes.{Attributes}
-use Rattle.pg_run.specs.pg_names.Names.{NamesValue, begin, cell_at, entry_in, fill, join_entry, join_flag, join_place, known, new_held, own_at, own_of, own_or_blank, or_blank, raise, with_flag, with_joined, with_place, let_go}
-use Rattle.pg_run.proofs.pg_names.Gone.{gone_cell, gone_own, gone_own_other}
-use Rattle.pg_run.proofs.pg_names.Holding.{begun_known, fill_cells, fill_own}
-use Rattle.pg_run.proofs.pg_names.Lookups.{flag_cell, flag_other, flag_same, joined_other_child, joined_other_dir, joined_own, joined_same, known_absent, own_with_flag, own_with_place, place_cell, place_other, place_same}
-use Rattle.pg_run.specs.pg_register.declared.flag.Flag.{Flag}
-use Rattle.pg_run.specs.pg_register.declared.place.Place.{Place}
-use Rattle.pg_run.specs.pg_register.Place.{blank_place, newer_place, root}
+use Rattle.law_frame.specs.pg_run.pg_base.declared.id.FileId.{FileId}
+use Rattle.law_frame.specs.pg_run.pg_base.Id.{is_same_file}
+use Rattle.law_frame.specs.pg_run.pg_base.Stamp.{is_before}
+use Rattle.law_frame.proofs.pg_run.pg_base.Orders.{is_same_file-true}
+use Rattle.law_frame.specs.pg_run.pg_entries.declared.entry.Entry.{Entry}
+use Rattle.law_frame.specs.pg_run.pg_entries.Entry.{joined_to}
+use Rattle.law_frame.specs.pg_run.pg_house.Facts.{IsHeld}
+use Rattle.law_frame.proofs.pg_run.pg_house.Truths.{bool_cases}
+use Rattle.law_frame.proofs.pg_run.theory_flood_pieces.Choices.{chosen}
+use Rattle.law_frame.specs.pg_run.pg_intent.declared.intent.Intent.{Intent}
+use Rattle.law_frame.specs.pg_run.pg_intent.declared.intent.Intent.TheVariants as intent
+use Rattle.law_frame.specs.pg_run.pg_intent.declared.key.IntentKey.{IntentKey}
+use Rattle.law_frame.specs.pg_run.pg_intent.Intent.{aimed_at, key_of, rejoined}
+use Rattle.law_frame.specs.pg_run.pg_intent.Intents.{aimed, begun, changed, has_key, intent_at, stands}
+use Rattle.law_frame.specs.pg_run.pg_names.declared.attributes.Attributes.{Attributes}
+use Rattle.law_frame.specs.pg_run.pg_names.Names.{NamesValue, begin, cell_at, entry_in, fill, join_entry, join_flag, join_place, known, new_held, own_at, own_of, own_or_blank, or_blank, raise, with_flag, with_joined, with_place, let_go}
+use Rattle.law_frame.proofs.pg_run.pg_names.Gone.{gone_cell, gone_own, gone_own_other}
+use Rattle.law_frame.proofs.pg_run.pg_names.Holding.{begun_known, fill_cells, fill_own}
+use Rattle.law_frame.proofs.pg_run.pg_names.Lookups.{flag_cell, flag_other, flag_same, joined_other_child, joined_other_dir, joined_own, joined_same, known_absent, own_with_flag, own_with_place, place_cell, place_other, place_same}
+use Rattle.law_frame.specs.pg_run.pg_register.declared.flag.Flag.{Flag}
+use Rattle.law_frame.specs.pg_run.pg_register.declared.place.Place.{Place}
+use Rattle.law_frame.specs.pg_run.pg_register.Place.{blank_place, newer_place, root}
 
 module _ (P : FileId → Place → Type 0) where
   -- of all things that are held, and of all children of directories; and the root is held

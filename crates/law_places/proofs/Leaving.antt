@@ -1,20 +1,20 @@
 -- A replica goes, or its peers hear of it: no place more is known, and none is told.
 use Rattle.std.proofs.Common.{ℕ, ◌≡◌, true, false, not, Some, refl, arith}
-use Rattle.pg_run.specs.pg_base.declared.id.FileId.{FileId}
-use Rattle.pg_run.specs.pg_base.Id.{is_same_file}
-use Rattle.pg_run.specs.pg_intent.declared.intent.Intent.{Intent}
-use Rattle.pg_run.specs.pg_intent.declared.intent.Intent.TheVariants as intent
-use Rattle.pg_run.specs.pg_intent.declared.key.IntentKey.TheVariants as intent_key
-use Rattle.pg_run.specs.pg_intent.Intent.{key_of}
-use Rattle.pg_run.specs.pg_intent.Intents.{begun, intent_at, stands}
-use Rattle.pg_run.specs.pg_register.declared.place.Place.{Place}
-use Rattle.pg_run.specs.pg_register.Place.{root}
-use Rattle.pg_run.specs.pg_store.declared.store.Store.{Store}
-use Rattle.pg_run.specs.pg_store.Beginning.{let_go, with_intents}
-use Rattle.pg_run.specs.pg_store.Births.{is_pending}
-use Rattle.pg_run.specs.pg_pieces.Done.{Done, idle}
-use Rattle.pg_run.specs.pg_pieces.Intending.{begin_intent}
-use Rattle.pg_run.proofs.Still.{begun_still}
+use Rattle.law_frame.specs.pg_run.pg_base.declared.id.FileId.{FileId}
+use Rattle.law_frame.specs.pg_run.pg_base.Id.{is_same_file}
+use Rattle.law_frame.specs.pg_run.pg_intent.declared.intent.Intent.{Intent}
+use Rattle.law_frame.specs.pg_run.pg_intent.declared.intent.Intent.TheVariants as intent
+use Rattle.law_frame.specs.pg_run.pg_intent.declared.key.IntentKey.TheVariants as intent_key
+use Rattle.law_frame.specs.pg_run.pg_intent.Intent.{key_of}
+use Rattle.law_frame.specs.pg_run.pg_intent.Intents.{begun, intent_at, stands}
+use Rattle.law_frame.specs.pg_run.pg_register.declared.place.Place.{Place}
+use Rattle.law_frame.specs.pg_run.pg_register.Place.{root}
+use Rattle.law_frame.specs.pg_run.pg_store.declared.store.Store.{Store}
+use Rattle.law_frame.specs.pg_run.pg_store.Beginning.{let_go, with_intents}
+use Rattle.law_frame.specs.pg_run.pg_store.Births.{is_pending}
+use Rattle.law_frame.specs.pg_run.pg_pieces.Done.{Done, idle}
+use Rattle.law_frame.specs.pg_run.pg_pieces.Intending.{begin_intent}
+use Rattle.law_frame.proofs.pg_run.Still.{begun_still}
 use Rattle.law_places.proofs.Fine.{IsFine, as_before, intending, same_drawn}
 use Rattle.law_places.proofs.Known.{OfIntent, begun_is, gone_names}
 use Rattle.law_places.proofs.Timed.{UpTo}

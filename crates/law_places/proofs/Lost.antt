@@ -6,43 +6,43 @@ use Rattle.std.proofs.lemmas.Bool.{false≢true}
 use Rattle.std.proofs.lemmas.Option.{none-some}
 use Rattle.std.specs.List.{filter}
 use Rattle.std.specs.Map.{keys_of}
-use Rattle.pg_run.specs.pg_base.declared.id.FileId.{FileId}
-use Rattle.pg_run.specs.pg_base.declared.policy.Policy.TheVariants.{Last}
-use Rattle.pg_run.specs.pg_base.declared.stamp.Stamp.{Stamp}
-use Rattle.pg_run.specs.pg_base.Id.{is_same_file}
-use Rattle.pg_run.specs.pg_content.Content.{Among}
-use Rattle.pg_run.proofs.pg_content.Members.{among_filter}
-use Rattle.pg_run.specs.pg_entries.declared.entry.Entry.{Entry}
-use Rattle.pg_run.specs.pg_entries.Entry.{brings, entry_of}
-use Rattle.pg_run.proofs.pg_house.Drawn.{drawn_place}
-use Rattle.pg_run.proofs.pg_house.Lasting.{drawn_late}
-use Rattle.pg_run.proofs.pg_house.Noting.{one_front}
-use Rattle.pg_run.specs.pg_intent.declared.key.IntentKey.TheVariants as intent_key
-use Rattle.pg_run.specs.pg_intent.Intents.{ended}
-use Rattle.pg_run.specs.pg_msg.declared.update.Update.TheVariants as update
-use Rattle.pg_run.specs.pg_msg.declared.work.Work.{Work}
-use Rattle.pg_run.specs.pg_msg.Work.{new_work, with_made}
-use Rattle.pg_run.specs.pg_names.declared.attributes.Attributes.{Attributes}
-use Rattle.pg_run.specs.pg_names.Names.{InodeValue, blank_own, cell_at, is_dir, is_entry_new, join_entry, known, or_blank, own_at, own_of, with_joined}
-use Rattle.pg_run.proofs.pg_names.Lookups.{update_frame}
-use Rattle.pg_run.proofs.theory_flood_pieces.Choices.{chosen}
-use Rattle.pg_run.proofs.theory_flood_pieces.Together.{own_of_held}
-use Rattle.pg_run.specs.pg_register.declared.place.Place.{Place}
-use Rattle.pg_run.specs.pg_register.Flag.{brings_news}
-use Rattle.pg_run.specs.pg_register.Place.{blank_place, root}
-use Rattle.pg_run.specs.pg_store.declared.store.Store.{Store}
-use Rattle.pg_run.specs.pg_store.Births.{draw_birth, with_birth}
-use Rattle.pg_run.specs.pg_store.Store.{is_held, is_newer_entry, put_entry, take_entry, with_names}
-use Rattle.pg_run.specs.pg_pieces.Done.{Done, idle}
-use Rattle.pg_run.specs.pg_pieces.Making.{own_next, raise_flag}
-use Rattle.pg_run.specs.pg_repair.Filling.{few_golds, fill, live_golds}
-use Rattle.pg_run.specs.pg_names.Names as names
-use Rattle.pg_run.specs.pg_calls.Forgetting.{bare_entry, begin_lost, begun_at, begun_with, dead_at, dead_by, dirs_of, fill_lost, forget_lost, has_blank_place, has_cell_for, is_wanted, last_listing, last_place, lists_in, mark, marked_each, placed_in_root, placed_lost, root_place, strike_out, struck_out, unfilled, unwished}
-use Rattle.pg_run.specs.pg_calls.Making.{drawn}
-use Rattle.pg_run.specs.pg_calls.Naming.{raised}
-use Rattle.pg_run.proofs.pg_calls.LastPlace.{cell_there, last_is, listed_there}
-use Rattle.pg_run.proofs.Still.{entry_still}
-use Rattle.pg_run.proofs.Striking.{latest_in, marked_made}
+use Rattle.law_frame.specs.pg_run.pg_base.declared.id.FileId.{FileId}
+use Rattle.law_frame.specs.pg_run.pg_base.declared.policy.Policy.TheVariants.{Last}
+use Rattle.law_frame.specs.pg_run.pg_base.declared.stamp.Stamp.{Stamp}
+use Rattle.law_frame.specs.pg_run.pg_base.Id.{is_same_file}
+use Rattle.law_frame.specs.pg_run.pg_content.Content.{Among}
+use Rattle.law_frame.proofs.pg_run.pg_content.Members.{among_filter}
+use Rattle.law_frame.specs.pg_run.pg_entries.declared.entry.Entry.{Entry}
+use Rattle.law_frame.specs.pg_run.pg_entries.Entry.{brings, entry_of}
+use Rattle.law_frame.proofs.pg_run.pg_house.Drawn.{drawn_place}
+use Rattle.law_frame.proofs.pg_run.pg_house.Lasting.{drawn_late}
+use Rattle.law_frame.proofs.pg_run.pg_house.Noting.{one_front}
+use Rattle.law_frame.specs.pg_run.pg_intent.declared.key.IntentKey.TheVariants as intent_key
+use Rattle.law_frame.specs.pg_run.pg_intent.Intents.{ended}
+use Rattle.law_frame.specs.pg_run.pg_msg.declared.update.Update.TheVariants as update
+use Rattle.law_frame.specs.pg_run.pg_msg.declared.work.Work.{Work}
+use Rattle.law_frame.specs.pg_run.pg_msg.Work.{new_work, with_made}
+use Rattle.law_frame.specs.pg_run.pg_names.declared.attributes.Attributes.{Attributes}
+use Rattle.law_frame.specs.pg_run.pg_names.Names.{InodeValue, blank_own, cell_at, is_dir, is_entry_new, join_entry, known, or_blank, own_at, own_of, with_joined}
+use Rattle.law_frame.proofs.pg_run.pg_names.Lookups.{update_frame}
+use Rattle.law_frame.proofs.pg_run.theory_flood_pieces.Choices.{chosen}
+use Rattle.law_frame.proofs.pg_run.theory_flood_pieces.Together.{own_of_held}
+use Rattle.law_frame.specs.pg_run.pg_register.declared.place.Place.{Place}
+use Rattle.law_frame.specs.pg_run.pg_register.Flag.{brings_news}
+use Rattle.law_frame.specs.pg_run.pg_register.Place.{blank_place, root}
+use Rattle.law_frame.specs.pg_run.pg_store.declared.store.Store.{Store}
+use Rattle.law_frame.specs.pg_run.pg_store.Births.{draw_birth, with_birth}
+use Rattle.law_frame.specs.pg_run.pg_store.Store.{is_held, is_newer_entry, put_entry, take_entry, with_names}
+use Rattle.law_frame.specs.pg_run.pg_pieces.Done.{Done, idle}
+use Rattle.law_frame.specs.pg_run.pg_pieces.Making.{own_next, raise_flag}
+use Rattle.law_frame.specs.pg_run.pg_repair.Filling.{few_golds, fill, live_golds}
+use Rattle.law_frame.specs.pg_run.pg_names.Names as names
+use Rattle.law_frame.specs.pg_run.pg_calls.Forgetting.{bare_entry, begin_lost, begun_at, begun_with, dead_at, dead_by, dirs_of, fill_lost, forget_lost, has_blank_place, has_cell_for, is_wanted, last_listing, last_place, lists_in, mark, marked_each, placed_in_root, placed_lost, root_place, strike_out, struck_out, unfilled, unwished}
+use Rattle.law_frame.specs.pg_run.pg_calls.Making.{drawn}
+use Rattle.law_frame.specs.pg_run.pg_calls.Naming.{raised}
+use Rattle.law_frame.proofs.pg_run.pg_calls.LastPlace.{cell_there, last_is, listed_there}
+use Rattle.law_frame.proofs.pg_run.Still.{entry_still}
+use Rattle.law_frame.proofs.pg_run.Striking.{latest_in, marked_made}
 use Rattle.law_places.proofs.Begun.{begin_fine}
 use Rattle.law_places.proofs.Fine.{At, IsFine, as_before, before_later, intending, made_place, raised_flag, took_entry}
 use Rattle.law_places.proofs.Handled.{fill_fine}

@@ -1,17 +1,17 @@
 -- Where places come from, over one list of all that was made.
 use Rattle.std.proofs.Common.{◌≡◌, Bool, true, false, cond, List, [], ◌∷◌, ◌++◌, refl, sym, ◌∙◌, ap, inl, inr, ◌⊎◌}
-use Rattle.pg_run.specs.pg_base.declared.id.FileId.{FileId}
-use Rattle.pg_run.specs.pg_base.Id.{is_same_file}
-use Rattle.pg_run.specs.pg_content.Content.{Among}
-use Rattle.pg_run.specs.pg_event.declared.entry.Entry.{Entry}
-use Rattle.pg_run.specs.pg_house.Facts.{IsOneOf}
-use Rattle.pg_run.proofs.pg_house.Noting.{one_front}
-use Rattle.pg_run.specs.pg_msg.declared.update.Update.{Update}
-use Rattle.pg_run.specs.pg_msg.declared.update.Update.TheVariants as update
-use Rattle.pg_run.specs.pg_register.declared.place.Place.{Place}
-use Rattle.pg_run.specs.pg_register.Place.{blank_place, root, root_place}
-use Rattle.pg_run.specs.Known.{WasMade}
-use Rattle.pg_run.specs.Took.{first_place}
+use Rattle.law_frame.specs.pg_run.pg_base.declared.id.FileId.{FileId}
+use Rattle.law_frame.specs.pg_run.pg_base.Id.{is_same_file}
+use Rattle.law_frame.specs.pg_run.pg_content.Content.{Among}
+use Rattle.law_frame.specs.pg_run.pg_event.declared.entry.Entry.{Entry}
+use Rattle.law_frame.specs.pg_run.pg_house.Facts.{IsOneOf}
+use Rattle.law_frame.proofs.pg_run.pg_house.Noting.{one_front}
+use Rattle.law_frame.specs.pg_run.pg_msg.declared.update.Update.{Update}
+use Rattle.law_frame.specs.pg_run.pg_msg.declared.update.Update.TheVariants as update
+use Rattle.law_frame.specs.pg_run.pg_register.declared.place.Place.{Place}
+use Rattle.law_frame.specs.pg_run.pg_register.Place.{blank_place, root, root_place}
+use Rattle.law_frame.specs.pg_run.Known.{WasMade}
+use Rattle.law_frame.specs.pg_run.Took.{first_place}
 
 -- the place that is known of a thing before any is made: the root has its own, any other the blank
 -- one

@@ -1,13 +1,13 @@
 -- No place that a server knows is later than the greatest time.
 use Rattle.std.proofs.Common.{ℕ, ◌≤◌, max, Bool, arith}
-use Rattle.pg_run.specs.pg_base.declared.id.FileId.{FileId}
-use Rattle.pg_run.specs.pg_entries.declared.entry.Entry.{Entry}
-use Rattle.pg_run.specs.pg_names.declared.attributes.Attributes.{Attributes}
-use Rattle.pg_run.specs.pg_names.Names.{NamesValue, begin, join_entry, join_flag, join_place, raise}
-use Rattle.pg_run.specs.pg_names.Names as names
-use Rattle.pg_run.proofs.pg_names.Lookups.{update_frame}
-use Rattle.pg_run.specs.pg_register.declared.flag.Flag.{Flag}
-use Rattle.pg_run.specs.pg_register.declared.place.Place.{Place}
+use Rattle.law_frame.specs.pg_run.pg_base.declared.id.FileId.{FileId}
+use Rattle.law_frame.specs.pg_run.pg_entries.declared.entry.Entry.{Entry}
+use Rattle.law_frame.specs.pg_run.pg_names.declared.attributes.Attributes.{Attributes}
+use Rattle.law_frame.specs.pg_run.pg_names.Names.{NamesValue, begin, join_entry, join_flag, join_place, raise}
+use Rattle.law_frame.specs.pg_run.pg_names.Names as names
+use Rattle.law_frame.proofs.pg_run.pg_names.Lookups.{update_frame}
+use Rattle.law_frame.specs.pg_run.pg_register.declared.flag.Flag.{Flag}
+use Rattle.law_frame.specs.pg_run.pg_register.declared.place.Place.{Place}
 use Rattle.law_places.proofs.Known.{AreNames, begun_names, entry_names, filled_names, flag_names, names_further, place_names, raised_names}
 
 pub at_least : (a t : ℕ) → a ≤ max a t

@@ -4,39 +4,39 @@ use Rattle.std.proofs.Common.{[], ℕ, ◌≡◌, ◌≢◌, ◌≤◌, ◌&&◌
 use Rattle.std.proofs.lemmas.Bool.{false≢true}
 use Rattle.std.proofs.lemmas.List.Elements.{All-append, All-contains, All-nil}
 use Rattle.std.proofs.lemmas.Option.{none-some, same_Some}
-use Rattle.pg_run.specs.pg_base.declared.id.FileId.{FileId}
-use Rattle.pg_run.specs.pg_base.declared.stamp.Stamp.{Stamp}
-use Rattle.pg_run.specs.pg_base.Id.{is_same_file}
-use Rattle.pg_run.proofs.pg_base.Orders.{is_same_file-refl, is_same_file-true}
-use Rattle.pg_run.specs.pg_event.declared.event.Event.{Event}
-use Rattle.pg_run.specs.pg_event.declared.event.Event.TheVariants.{Tick, Restart}
-use Rattle.pg_run.specs.pg_event.declared.entry.VoidCause.{VoidCause}
-use Rattle.pg_run.specs.theory_flood.World.{after}
-use Rattle.pg_run.proofs.theory_flood.Flood.{after_itself, here}
-use Rattle.pg_run.proofs.pg_house.Noting.{one_front}
-use Rattle.pg_run.proofs.pg_house.Truths.{or_cases}
-use Rattle.pg_run.specs.pg_msg.declared.update.Update.{Update}
-use Rattle.pg_run.specs.pg_msg.declared.update.Update.TheVariants as update
-use Rattle.pg_run.specs.pg_names.declared.attributes.Attributes.{Attributes}
-use Rattle.pg_run.specs.pg_names.Names.{entry_in, new_held, new_names, own_of}
-use Rattle.pg_run.proofs.pg_names.Holding.{begun_known}
-use Rattle.pg_run.specs.pg_register.declared.place.Place.{Place}
-use Rattle.pg_run.specs.pg_register.Place.{blank_place, root, root_place}
-use Rattle.pg_run.specs.pg_server.declared.input.Input.{Input}
-use Rattle.pg_run.specs.pg_server.declared.input.Input.TheVariants as input
-use Rattle.pg_run.specs.pg_server.Local.{Effect, effect}
-use Rattle.pg_run.specs.pg_store.declared.store.Store.{Store}
-use Rattle.pg_run.specs.pg_store.declared.wishes.Wish.{Wish}
-use Rattle.pg_run.specs.pg_store.Births.{fill_at, is_fill_at, is_pending, wish_at}
-use Rattle.pg_run.specs.pg_store.Seen.{server_of}
-use Rattle.pg_run.specs.pg_store.Start.{first_names, root_own}
-use Rattle.pg_run.specs.pg_store.Store.{is_held}
-use Rattle.pg_run.specs.pg_store.Wishes.{is_with_birth}
-use Rattle.pg_run.proofs.pg_calls.Walked.{full_held}
-use Rattle.pg_run.specs.Intending.{HoldsBoth, IntendsInOrder, IntentionsAreInOrder}
-use Rattle.pg_run.specs.Journal.{mail}
-use Rattle.pg_run.specs.Run.{World, effect_step, idle_step, run, start, world_after}
-use Rattle.pg_run.proofs.Frame.{HasCome, holds_in_runs, no_server_comes}
+use Rattle.law_frame.specs.pg_run.pg_base.declared.id.FileId.{FileId}
+use Rattle.law_frame.specs.pg_run.pg_base.declared.stamp.Stamp.{Stamp}
+use Rattle.law_frame.specs.pg_run.pg_base.Id.{is_same_file}
+use Rattle.law_frame.proofs.pg_run.pg_base.Orders.{is_same_file-refl, is_same_file-true}
+use Rattle.law_frame.specs.pg_run.pg_event.declared.event.Event.{Event}
+use Rattle.law_frame.specs.pg_run.pg_event.declared.event.Event.TheVariants.{Tick, Restart}
+use Rattle.law_frame.specs.pg_run.pg_event.declared.entry.VoidCause.{VoidCause}
+use Rattle.law_frame.specs.pg_run.theory_flood.World.{after}
+use Rattle.law_frame.proofs.pg_run.theory_flood.Flood.{after_itself, here}
+use Rattle.law_frame.proofs.pg_run.pg_house.Noting.{one_front}
+use Rattle.law_frame.proofs.pg_run.pg_house.Truths.{or_cases}
+use Rattle.law_frame.specs.pg_run.pg_msg.declared.update.Update.{Update}
+use Rattle.law_frame.specs.pg_run.pg_msg.declared.update.Update.TheVariants as update
+use Rattle.law_frame.specs.pg_run.pg_names.declared.attributes.Attributes.{Attributes}
+use Rattle.law_frame.specs.pg_run.pg_names.Names.{entry_in, new_held, new_names, own_of}
+use Rattle.law_frame.proofs.pg_run.pg_names.Holding.{begun_known}
+use Rattle.law_frame.specs.pg_run.pg_register.declared.place.Place.{Place}
+use Rattle.law_frame.specs.pg_run.pg_register.Place.{blank_place, root, root_place}
+use Rattle.law_frame.specs.pg_run.pg_server.declared.input.Input.{Input}
+use Rattle.law_frame.specs.pg_run.pg_server.declared.input.Input.TheVariants as input
+use Rattle.law_frame.specs.pg_run.pg_server.Local.{Effect, effect}
+use Rattle.law_frame.specs.pg_run.pg_store.declared.store.Store.{Store}
+use Rattle.law_frame.specs.pg_run.pg_store.declared.wishes.Wish.{Wish}
+use Rattle.law_frame.specs.pg_run.pg_store.Births.{fill_at, is_fill_at, is_pending, wish_at}
+use Rattle.law_frame.specs.pg_run.pg_store.Seen.{server_of}
+use Rattle.law_frame.specs.pg_run.pg_store.Start.{first_names, root_own}
+use Rattle.law_frame.specs.pg_run.pg_store.Store.{is_held}
+use Rattle.law_frame.specs.pg_run.pg_store.Wishes.{is_with_birth}
+use Rattle.law_frame.proofs.pg_run.pg_calls.Walked.{full_held}
+use Rattle.law_frame.specs.pg_run.Intending.{HoldsBoth, IntendsInOrder, IntentionsAreInOrder}
+use Rattle.law_frame.specs.pg_run.Journal.{mail}
+use Rattle.law_frame.specs.pg_run.Run.{World, effect_step, idle_step, run, start, world_after}
+use Rattle.law_frame.proofs.pg_run.Frame.{HasCome, holds_in_runs, no_server_comes}
 use Rattle.law_places.proofs.Origins.{IsFrom, IsMade, all_made, one_behind, one_parts}
 use Rattle.law_places.proofs.Effects.{Leaves, OfInput, effect_leaves, input_further}
 use Rattle.law_places.proofs.Fine.{AreKnown}

@@ -3,8 +3,8 @@
 
 ghost use Rattle.std.specs.Prelude.{ℕ};
 ghost use Rattle.law_places.specs.Laws.{OneMadePlaceAStamp, OnePlaceAStamp, PlacesWereMade};
-ghost use Rattle.pg_run.specs.Intending.{IntentionsAreInOrder};
-ghost use Rattle.pg_run.specs.Known.{PlacesHaveOwnStamps, PlacesMadeArePast};
+ghost use Rattle.law_frame.specs.pg_run.Intending.{IntentionsAreInOrder};
+ghost use Rattle.law_frame.specs.pg_run.Known.{PlacesHaveOwnStamps, PlacesMadeArePast};
 
 /// Two places of a thing with one stamp are one place, wherever they are known: at a server, in
 /// what a directory is to be told, and in each message that was ever sent.

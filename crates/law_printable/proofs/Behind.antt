@@ -3,32 +3,32 @@
 use Rattle.std.proofs.Common.{not, Bool, List, [], ◌∷◌, drop, length}
 use Rattle.std.specs.List.{filter}
 use Rattle.std.proofs.lemmas.List.Elements.{All-append, All-contains}
-use Rattle.pg_run.specs.pg_intent.declared.intent.Intent.{Intent}
-use Rattle.pg_run.specs.pg_intent.declared.intent.Intent.TheVariants as intent
-use Rattle.pg_run.specs.pg_intent.declared.key.IntentKey.{IntentKey}
-use Rattle.pg_run.specs.pg_intent.declared.key.IntentKey.TheVariants as intent_key
-use Rattle.pg_run.specs.pg_intent.Intent.{key_of}
-use Rattle.pg_run.specs.pg_intent.Intents.{aimed, begun, stands}
-use Rattle.pg_run.specs.pg_msg.declared.work.Touched.{Touched}
-use Rattle.pg_run.specs.pg_msg.declared.work.Work.{Work}
-use Rattle.pg_run.specs.pg_msg.Work.{with_begun}
-use Rattle.pg_run.specs.pg_store.declared.store.Store.{Store}
-use Rattle.pg_run.specs.pg_store.Store.{touch, with_names}
-use Rattle.pg_run.specs.pg_house.House.{house}
-use Rattle.pg_run.specs.pg_house.Work.{state_of}
-use Rattle.pg_run.proofs.pg_house.Truths.{chosen}
-use Rattle.pg_run.specs.pg_pieces.Done.{Done, idle}
-use Rattle.pg_run.specs.pg_cells.Finish.{finish}
-use Rattle.pg_run.specs.pg_cells.Sending.{cells_where, is_chosen}
-use Rattle.pg_run.specs.pg_cells.Settling.{rules, settle, touch_all}
-use Rattle.pg_run.proofs.pg_cells.Settled.{settle_keeps}
-use Rattle.pg_run.specs.pg_intentions.Beginning.{begin_end, still_stands}
-use Rattle.pg_run.specs.pg_intentions.Confirms.{confirm_of}
-use Rattle.pg_run.specs.pg_intentions.Fills.{fill_of, files_to_fill, with_fill_birth}
-use Rattle.pg_run.specs.pg_intentions.Intending.{begin_intent, with_begun_if}
-use Rattle.pg_run.specs.pg_intentions.Patches.{patch_of}
-use Rattle.pg_run.specs.pg_intentions.Seeks.{seek_target}
-use Rattle.pg_run.specs.pg_server.Local.{sent_at_end}
+use Rattle.law_frame.specs.pg_run.pg_intent.declared.intent.Intent.{Intent}
+use Rattle.law_frame.specs.pg_run.pg_intent.declared.intent.Intent.TheVariants as intent
+use Rattle.law_frame.specs.pg_run.pg_intent.declared.key.IntentKey.{IntentKey}
+use Rattle.law_frame.specs.pg_run.pg_intent.declared.key.IntentKey.TheVariants as intent_key
+use Rattle.law_frame.specs.pg_run.pg_intent.Intent.{key_of}
+use Rattle.law_frame.specs.pg_run.pg_intent.Intents.{aimed, begun, stands}
+use Rattle.law_frame.specs.pg_run.pg_msg.declared.work.Touched.{Touched}
+use Rattle.law_frame.specs.pg_run.pg_msg.declared.work.Work.{Work}
+use Rattle.law_frame.specs.pg_run.pg_msg.Work.{with_begun}
+use Rattle.law_frame.specs.pg_run.pg_store.declared.store.Store.{Store}
+use Rattle.law_frame.specs.pg_run.pg_store.Store.{touch, with_names}
+use Rattle.law_frame.specs.pg_run.pg_house.House.{house}
+use Rattle.law_frame.specs.pg_run.pg_house.Work.{state_of}
+use Rattle.law_frame.proofs.pg_run.pg_house.Truths.{chosen}
+use Rattle.law_frame.specs.pg_run.pg_pieces.Done.{Done, idle}
+use Rattle.law_frame.specs.pg_run.pg_cells.Finish.{finish}
+use Rattle.law_frame.specs.pg_run.pg_cells.Sending.{cells_where, is_chosen}
+use Rattle.law_frame.specs.pg_run.pg_cells.Settling.{rules, settle, touch_all}
+use Rattle.law_frame.proofs.pg_run.pg_cells.Settled.{settle_keeps}
+use Rattle.law_frame.specs.pg_run.pg_intentions.Beginning.{begin_end, still_stands}
+use Rattle.law_frame.specs.pg_run.pg_intentions.Confirms.{confirm_of}
+use Rattle.law_frame.specs.pg_run.pg_intentions.Fills.{fill_of, files_to_fill, with_fill_birth}
+use Rattle.law_frame.specs.pg_run.pg_intentions.Intending.{begin_intent, with_begun_if}
+use Rattle.law_frame.specs.pg_run.pg_intentions.Patches.{patch_of}
+use Rattle.law_frame.specs.pg_run.pg_intentions.Seeks.{seek_target}
+use Rattle.law_frame.specs.pg_run.pg_server.Local.{sent_at_end}
 use Rattle.law_frame.proofs.Ended.{fill_born, intents_keep}
 use Rattle.law_printable.proofs.Handlers.{flag_raised, own_entry_suits}
 use Rattle.law_printable.proofs.House.{IsOfDir, StateSuits, SuitsSlot, WorkSuits, house_suits}

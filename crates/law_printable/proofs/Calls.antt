@@ -1,46 +1,46 @@
 -- What a client is told of a call, what the call makes and what the server holds then, suits.
 use Rattle.std.proofs.Common.{ℕ, ◌≡◌, ◌≤◌, true, List, Option, None, Some, Result, Ok, Err, length, take, refl, sym, ap, subst, inl, inr, arith}
 use Rattle.std.proofs.lemmas.List.Elements.{All-push}
-use Rattle.pg_run.specs.pg_base.declared.id.FileId.{FileId}
-use Rattle.pg_run.specs.pg_base.declared.id.Kind.TheVariants.{Dir, File}
-use Rattle.pg_run.specs.pg_base.declared.policy.Policy.TheVariants.{Last}
-use Rattle.pg_run.specs.pg_base.declared.stamp.Stamp.{Stamp}
-use Rattle.pg_run.specs.pg_call.declared.call.Call.{Call}
-use Rattle.pg_run.specs.pg_call.declared.call.Call.TheVariants as call
-use Rattle.pg_run.specs.pg_announced.Announced.{first_of}
-use Rattle.pg_run.specs.pg_call.Call.{IsCall}
-use Rattle.pg_run.specs.pg_intent.declared.key.IntentKey.TheVariants as intent_key
-use Rattle.pg_run.specs.pg_intent.Intents.{ended}
-use Rattle.pg_run.specs.pg_msg.declared.message.Message.TheVariants as message
-use Rattle.pg_run.specs.pg_msg.declared.update.Update.{Update}
-use Rattle.pg_run.specs.pg_msg.declared.update.Update.TheVariants as update
-use Rattle.pg_run.specs.pg_msg.declared.work.Work.{Work}
-use Rattle.pg_run.specs.pg_msg.Work.{with_made}
-use Rattle.pg_run.specs.pg_names.declared.attributes.Attributes.{Attributes}
-use Rattle.pg_run.specs.pg_names.Names.{blank_own, own_or_blank}
-use Rattle.pg_run.specs.pg_patch.Ranges.{RangesValue}
-use Rattle.pg_run.specs.pg_register.declared.flag.Flag.{Flag}
-use Rattle.pg_run.specs.pg_register.declared.place.Place.{Place}
-use Rattle.pg_run.specs.pg_store.declared.store.Store.{Store}
-use Rattle.pg_run.specs.pg_store.Births.{draw_birth, with_birth}
-use Rattle.pg_run.specs.pg_lookup.declared.paths.LookupError.{LookupError}
-use Rattle.pg_run.specs.pg_lookup.declared.paths.LookupError.TheVariants as stop
-use Rattle.pg_run.specs.pg_pieces.Done.{Done, idle}
-use Rattle.pg_run.specs.pg_pieces.Making.{own_next}
-use Rattle.pg_run.specs.pg_checks.declared.checks.NewName.{NewName}
-use Rattle.pg_run.specs.pg_checks.Answer.{Answer, answered}
-use Rattle.pg_run.specs.pg_checks.Asking.{holder}
-use Rattle.pg_run.specs.pg_calls.Bodies.{when_fit}
-use Rattle.pg_run.specs.pg_calls.Calls.{do_call}
-use Rattle.pg_run.specs.pg_checks.Checks.{dir_at, empty_dir_at, file_at, in_time, move_of, new_name, target_at}
-use Rattle.pg_run.specs.pg_calls.Demoting.{demoted_at}
-use Rattle.pg_run.specs.pg_calls.Dropping.{clean_gold, dropped_at, leave_of, leaving}
-use Rattle.pg_run.specs.pg_calls.Forgetting.{bare_entry, dead_at, last_place, lost_at, unfilled}
-use Rattle.pg_run.specs.pg_calls.GivingUp.{removal_at}
-use Rattle.pg_run.specs.pg_calls.Looks.{freshness}
-use Rattle.pg_run.specs.pg_calls.Making.{drawn, make_version, version_of}
-use Rattle.pg_run.specs.pg_calls.Naming.{dead_place, next_id, place_in, with_id}
-use Rattle.pg_run.proofs.pg_calls.Checked.{fit_found}
+use Rattle.law_frame.specs.pg_run.pg_base.declared.id.FileId.{FileId}
+use Rattle.law_frame.specs.pg_run.pg_base.declared.id.Kind.TheVariants.{Dir, File}
+use Rattle.law_frame.specs.pg_run.pg_base.declared.policy.Policy.TheVariants.{Last}
+use Rattle.law_frame.specs.pg_run.pg_base.declared.stamp.Stamp.{Stamp}
+use Rattle.law_frame.specs.pg_run.pg_call.declared.call.Call.{Call}
+use Rattle.law_frame.specs.pg_run.pg_call.declared.call.Call.TheVariants as call
+use Rattle.law_frame.specs.pg_run.pg_announced.Announced.{first_of}
+use Rattle.law_frame.specs.pg_run.pg_call.Call.{IsCall}
+use Rattle.law_frame.specs.pg_run.pg_intent.declared.key.IntentKey.TheVariants as intent_key
+use Rattle.law_frame.specs.pg_run.pg_intent.Intents.{ended}
+use Rattle.law_frame.specs.pg_run.pg_msg.declared.message.Message.TheVariants as message
+use Rattle.law_frame.specs.pg_run.pg_msg.declared.update.Update.{Update}
+use Rattle.law_frame.specs.pg_run.pg_msg.declared.update.Update.TheVariants as update
+use Rattle.law_frame.specs.pg_run.pg_msg.declared.work.Work.{Work}
+use Rattle.law_frame.specs.pg_run.pg_msg.Work.{with_made}
+use Rattle.law_frame.specs.pg_run.pg_names.declared.attributes.Attributes.{Attributes}
+use Rattle.law_frame.specs.pg_run.pg_names.Names.{blank_own, own_or_blank}
+use Rattle.law_frame.specs.pg_run.pg_patch.Ranges.{RangesValue}
+use Rattle.law_frame.specs.pg_run.pg_register.declared.flag.Flag.{Flag}
+use Rattle.law_frame.specs.pg_run.pg_register.declared.place.Place.{Place}
+use Rattle.law_frame.specs.pg_run.pg_store.declared.store.Store.{Store}
+use Rattle.law_frame.specs.pg_run.pg_store.Births.{draw_birth, with_birth}
+use Rattle.law_frame.specs.pg_run.pg_lookup.declared.paths.LookupError.{LookupError}
+use Rattle.law_frame.specs.pg_run.pg_lookup.declared.paths.LookupError.TheVariants as stop
+use Rattle.law_frame.specs.pg_run.pg_pieces.Done.{Done, idle}
+use Rattle.law_frame.specs.pg_run.pg_pieces.Making.{own_next}
+use Rattle.law_frame.specs.pg_run.pg_checks.declared.checks.NewName.{NewName}
+use Rattle.law_frame.specs.pg_run.pg_checks.Answer.{Answer, answered}
+use Rattle.law_frame.specs.pg_run.pg_checks.Asking.{holder}
+use Rattle.law_frame.specs.pg_run.pg_calls.Bodies.{when_fit}
+use Rattle.law_frame.specs.pg_run.pg_calls.Calls.{do_call}
+use Rattle.law_frame.specs.pg_run.pg_checks.Checks.{dir_at, empty_dir_at, file_at, in_time, move_of, new_name, target_at}
+use Rattle.law_frame.specs.pg_run.pg_calls.Demoting.{demoted_at}
+use Rattle.law_frame.specs.pg_run.pg_calls.Dropping.{clean_gold, dropped_at, leave_of, leaving}
+use Rattle.law_frame.specs.pg_run.pg_calls.Forgetting.{bare_entry, dead_at, last_place, lost_at, unfilled}
+use Rattle.law_frame.specs.pg_run.pg_calls.GivingUp.{removal_at}
+use Rattle.law_frame.specs.pg_run.pg_calls.Looks.{freshness}
+use Rattle.law_frame.specs.pg_run.pg_calls.Making.{drawn, make_version, version_of}
+use Rattle.law_frame.specs.pg_run.pg_calls.Naming.{dead_place, next_id, place_in, with_id}
+use Rattle.law_frame.proofs.pg_run.pg_calls.Checked.{fit_found}
 use Rattle.pg_trace.specs.Suited.{IsCallAnswer, SuitsUpdate}
 use Rattle.pg_trace.proofs.Lines.{few_taken}
 use Rattle.law_frame.proofs.Called.{call_keeps}

@@ -3,24 +3,24 @@ use Rattle.std.proofs.Common.{ℕ, ◌≡◌, true, List, [], ◌∷◌, Option,
 use Rattle.std.specs.List.{flat_map}
 use Rattle.std.specs.Map.{keys_of}
 use Rattle.std.proofs.lemmas.List.Elements.{All-append, All-cons, All-nil}
-use Rattle.pg_run.specs.pg_base.declared.id.FileId.{FileId}
-use Rattle.pg_run.specs.pg_base.declared.id.Kind.TheVariants.{Dir}
-use Rattle.pg_run.specs.pg_content.Content.{Among}
-use Rattle.pg_run.proofs.pg_content.Members.{among_filter}
-use Rattle.pg_run.specs.pg_edges.declared.edge.Edge.{Edge}
-use Rattle.pg_run.specs.pg_intent.declared.intent.Intent.{Intent}
-use Rattle.pg_run.specs.pg_intent.declared.key.IntentKey.{IntentKey}
-use Rattle.pg_run.specs.pg_intent.Intents.{aimed, ended, keys_to, turned, turned_each}
-use Rattle.pg_run.specs.pg_intent.Key.{is_for_peer}
-use Rattle.pg_run.specs.pg_msg.declared.work.Work.{Work}
-use Rattle.pg_run.specs.pg_names.Names.{InodeValue, NamesValue, directories, is_dir, known}
-use Rattle.pg_run.proofs.pg_house.Truths.{chosen}
-use Rattle.pg_run.specs.pg_store.declared.store.Store.{Store}
-use Rattle.pg_run.specs.pg_store.Views.{enter}
-use Rattle.pg_run.proofs.pg_store.Entered.{enter_intents, enter_names}
-use Rattle.pg_run.specs.pg_pieces.Done.{idle}
-use Rattle.pg_run.specs.pg_intentions.Inviting.{invite_along, invite_each, invite_of, invites, loose_edge}
-use Rattle.pg_run.specs.pg_calls.GivingUp.{cells_of, doubt_all, enter_view, slots_in, slots_to}
+use Rattle.law_frame.specs.pg_run.pg_base.declared.id.FileId.{FileId}
+use Rattle.law_frame.specs.pg_run.pg_base.declared.id.Kind.TheVariants.{Dir}
+use Rattle.law_frame.specs.pg_run.pg_content.Content.{Among}
+use Rattle.law_frame.proofs.pg_run.pg_content.Members.{among_filter}
+use Rattle.law_frame.specs.pg_run.pg_edges.declared.edge.Edge.{Edge}
+use Rattle.law_frame.specs.pg_run.pg_intent.declared.intent.Intent.{Intent}
+use Rattle.law_frame.specs.pg_run.pg_intent.declared.key.IntentKey.{IntentKey}
+use Rattle.law_frame.specs.pg_run.pg_intent.Intents.{aimed, ended, keys_to, turned, turned_each}
+use Rattle.law_frame.specs.pg_run.pg_intent.Key.{is_for_peer}
+use Rattle.law_frame.specs.pg_run.pg_msg.declared.work.Work.{Work}
+use Rattle.law_frame.specs.pg_run.pg_names.Names.{InodeValue, NamesValue, directories, is_dir, known}
+use Rattle.law_frame.proofs.pg_run.pg_house.Truths.{chosen}
+use Rattle.law_frame.specs.pg_run.pg_store.declared.store.Store.{Store}
+use Rattle.law_frame.specs.pg_run.pg_store.Views.{enter}
+use Rattle.law_frame.proofs.pg_run.pg_store.Entered.{enter_intents, enter_names}
+use Rattle.law_frame.specs.pg_run.pg_pieces.Done.{idle}
+use Rattle.law_frame.specs.pg_run.pg_intentions.Inviting.{invite_along, invite_each, invite_of, invites, loose_edge}
+use Rattle.law_frame.specs.pg_run.pg_calls.GivingUp.{cells_of, doubt_all, enter_view, slots_in, slots_to}
 use Rattle.law_printable.proofs.Found.{dir_kind}
 use Rattle.law_printable.proofs.House.{IsOfDir, WorkSuits}
 use Rattle.law_printable.proofs.Intents.{AllIntents, aimed_suit, ended_suit}

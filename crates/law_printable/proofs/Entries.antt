@@ -4,39 +4,39 @@ use Rattle.std.proofs.Common.{ℕ, ◌≡◌, ◌==◌, Bool, true, false, cond,
 use Rattle.std.specs.List.{AllByRecursion, flat_map}
 use Rattle.std.proofs.lemmas.Option.{none-some, same_Some}
 use Rattle.std.proofs.lemmas.List.Elements.{All-append, All-contains, All-nil, recursion_from_All}
-use Rattle.pg_run.specs.pg_call.declared.call.Call.{Call}
-use Rattle.pg_run.specs.pg_call.declared.refusal.Refusal.TheVariants.{ClockEnd}
-use Rattle.pg_run.specs.pg_call.declared.reply.Reply.{Reply}
-use Rattle.pg_run.specs.pg_call.declared.reply.Reply.TheVariants as reply
-use Rattle.pg_run.specs.pg_event.declared.entry.VoidCause.{VoidCause}
-use Rattle.pg_run.specs.pg_event.declared.event.Event.{Event}
-use Rattle.pg_run.specs.pg_event.declared.event.Event.TheVariants.{Call as Called, Tick, Deliver, Lose, Repeat, Restart, Remove}
-use Rattle.pg_run.specs.pg_event.Event.{IsEvent}
-use Rattle.pg_run.specs.pg_msg.declared.message.Message.TheVariants as message
-use Rattle.pg_run.specs.pg_msg.declared.message.Packet.{Packet}
-use Rattle.pg_run.specs.pg_msg.declared.message.Sent.{Sent}
-use Rattle.pg_run.specs.pg_msg.declared.work.Work.{Work}
-use Rattle.pg_run.specs.pg_msg.Sent.{summary}
-use Rattle.pg_run.specs.pg_msg.Work.{new_work}
-use Rattle.pg_run.specs.pg_store.declared.store.Store.{Store}
-use Rattle.pg_run.specs.pg_store.Store.{is_before_clock_end}
-use Rattle.pg_run.proofs.pg_house.Truths.{chosen}
-use Rattle.pg_run.specs.pg_pieces.Done.{Done, idle}
-use Rattle.pg_run.specs.pg_cells.Sending.{cells_where, is_any}
-use Rattle.pg_run.specs.pg_cells.Ticks.{tick}
-use Rattle.pg_run.specs.pg_repair.Fetching.{ends_to}
-use Rattle.pg_run.specs.pg_intentions.Requests.{ask_all, asks}
-use Rattle.pg_run.specs.pg_calls.Calls.{do_call}
-use Rattle.pg_run.specs.pg_server.declared.input.Input.{Input}
-use Rattle.pg_run.specs.pg_server.declared.input.Input.TheVariants as input
-use Rattle.pg_run.specs.pg_server.Local.{Effect, closed, done_of, effect, finished, first_effect, intended, is_heard, receive, sent_at_end, settled, ticked, without_volatile}
-use Rattle.pg_run.specs.Journal.{bag, mail, message_at, removals}
-use Rattle.pg_run.specs.Run.{Step, Taking, World, effect_step, idle_step, is_due, is_live, next, taking_in, taking_message, world_after}
-use Rattle.pg_run.proofs.Event.{nothing_last}
-use Rattle.pg_run.proofs.Frame.{IsFramed, framed, was_sent}
-use Rattle.pg_run.proofs.LastWalks.{lasts_have}
-use Rattle.pg_run.proofs.Ticked.{sent_again_same}
-use Rattle.pg_run.proofs.Walks.{again_is, tick_walks}
+use Rattle.law_frame.specs.pg_run.pg_call.declared.call.Call.{Call}
+use Rattle.law_frame.specs.pg_run.pg_call.declared.refusal.Refusal.TheVariants.{ClockEnd}
+use Rattle.law_frame.specs.pg_run.pg_call.declared.reply.Reply.{Reply}
+use Rattle.law_frame.specs.pg_run.pg_call.declared.reply.Reply.TheVariants as reply
+use Rattle.law_frame.specs.pg_run.pg_event.declared.entry.VoidCause.{VoidCause}
+use Rattle.law_frame.specs.pg_run.pg_event.declared.event.Event.{Event}
+use Rattle.law_frame.specs.pg_run.pg_event.declared.event.Event.TheVariants.{Call as Called, Tick, Deliver, Lose, Repeat, Restart, Remove}
+use Rattle.law_frame.specs.pg_run.pg_event.Event.{IsEvent}
+use Rattle.law_frame.specs.pg_run.pg_msg.declared.message.Message.TheVariants as message
+use Rattle.law_frame.specs.pg_run.pg_msg.declared.message.Packet.{Packet}
+use Rattle.law_frame.specs.pg_run.pg_msg.declared.message.Sent.{Sent}
+use Rattle.law_frame.specs.pg_run.pg_msg.declared.work.Work.{Work}
+use Rattle.law_frame.specs.pg_run.pg_msg.Sent.{summary}
+use Rattle.law_frame.specs.pg_run.pg_msg.Work.{new_work}
+use Rattle.law_frame.specs.pg_run.pg_store.declared.store.Store.{Store}
+use Rattle.law_frame.specs.pg_run.pg_store.Store.{is_before_clock_end}
+use Rattle.law_frame.proofs.pg_run.pg_house.Truths.{chosen}
+use Rattle.law_frame.specs.pg_run.pg_pieces.Done.{Done, idle}
+use Rattle.law_frame.specs.pg_run.pg_cells.Sending.{cells_where, is_any}
+use Rattle.law_frame.specs.pg_run.pg_cells.Ticks.{tick}
+use Rattle.law_frame.specs.pg_run.pg_repair.Fetching.{ends_to}
+use Rattle.law_frame.specs.pg_run.pg_intentions.Requests.{ask_all, asks}
+use Rattle.law_frame.specs.pg_run.pg_calls.Calls.{do_call}
+use Rattle.law_frame.specs.pg_run.pg_server.declared.input.Input.{Input}
+use Rattle.law_frame.specs.pg_run.pg_server.declared.input.Input.TheVariants as input
+use Rattle.law_frame.specs.pg_run.pg_server.Local.{Effect, closed, done_of, effect, finished, first_effect, intended, is_heard, receive, sent_at_end, settled, ticked, without_volatile}
+use Rattle.law_frame.specs.pg_run.Journal.{bag, mail, message_at, removals}
+use Rattle.law_frame.specs.pg_run.Run.{Step, Taking, World, effect_step, idle_step, is_due, is_live, next, taking_in, taking_message, world_after}
+use Rattle.law_frame.proofs.pg_run.Event.{nothing_last}
+use Rattle.law_frame.proofs.pg_run.Frame.{IsFramed, framed, was_sent}
+use Rattle.law_frame.proofs.pg_run.LastWalks.{lasts_have}
+use Rattle.law_frame.proofs.pg_run.Ticked.{sent_again_same}
+use Rattle.law_frame.proofs.pg_run.Walks.{again_is, tick_walks}
 use Rattle.pg_trace.specs.Suited.{Answers, IsSuited, SuitsKind, SuitsUpdate}
 use Rattle.law_printable.proofs.Behind.{ended_suits, intended as intentions_suit, settled_suits}
 use Rattle.law_printable.proofs.Calls.{call_suits}

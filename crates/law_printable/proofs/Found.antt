@@ -1,25 +1,25 @@
 -- What the checks of calls find: files, directories, and new names in directories.
 use Rattle.std.proofs.Common.{ℕ, ◌≡◌, Bool, true, false, cond, List, [], ◌∷◌, Option, None, Some, Result, Ok, Err, refl, sym, ap, subst, ◌∙◌}
 use Rattle.std.proofs.lemmas.Bool.{false≢true}
-use Rattle.pg_run.specs.pg_base.declared.id.FileId.{FileId}
-use Rattle.pg_run.specs.pg_base.declared.id.Kind.{Kind}
-use Rattle.pg_run.specs.pg_base.declared.id.Kind.TheVariants.{Dir, File}
-use Rattle.pg_run.specs.pg_call.declared.refusal.Refusal.TheVariants.{DirFull, Exists, Loop, Root}
-use Rattle.pg_run.specs.pg_names.Names.{NamesValue, is_dir_kind}
-use Rattle.pg_run.specs.pg_path.Name.{IsClientName}
-use Rattle.pg_run.specs.pg_path.Tested.{is_client_name}
-use Rattle.pg_run.proofs.pg_path.Tested.{client_name_is}
-use Rattle.pg_run.specs.pg_register.Place.{root}
-use Rattle.pg_run.specs.pg_store.declared.store.Store.{Store}
-use Rattle.pg_run.specs.pg_lookup.declared.paths.LookupError.{LookupError}
-use Rattle.pg_run.specs.pg_lookup.declared.paths.LookupError.TheVariants as stop
-use Rattle.pg_run.specs.pg_lookup.Walk.{and_then, is_dir_full, reach, reach_parent, shown_by}
-use Rattle.pg_run.specs.pg_house.Returning.{is_root}
-use Rattle.pg_run.specs.pg_checks.Answer.{unless}
-use Rattle.pg_run.specs.pg_checks.Checks.{file_at, in_time, move_along, move_of, move_to, new_name, new_name_in, unless_shown, when_free}
-use Rattle.pg_run.specs.pg_checks.Paths.{is_none, last_of, new_path_of, path_of, paths_of, with_new_name}
-use Rattle.pg_run.proofs.pg_calls.Checked.{behind, no_ok, same_ok, unless_ok}
-use Rattle.pg_run.proofs.pg_calls.Walked.{file_found as held_file, parent_found}
+use Rattle.law_frame.specs.pg_run.pg_base.declared.id.FileId.{FileId}
+use Rattle.law_frame.specs.pg_run.pg_base.declared.id.Kind.{Kind}
+use Rattle.law_frame.specs.pg_run.pg_base.declared.id.Kind.TheVariants.{Dir, File}
+use Rattle.law_frame.specs.pg_run.pg_call.declared.refusal.Refusal.TheVariants.{DirFull, Exists, Loop, Root}
+use Rattle.law_frame.specs.pg_run.pg_names.Names.{NamesValue, is_dir_kind}
+use Rattle.law_frame.specs.pg_run.pg_path.Name.{IsClientName}
+use Rattle.law_frame.specs.pg_run.pg_path.Tested.{is_client_name}
+use Rattle.law_frame.proofs.pg_run.pg_path.Tested.{client_name_is}
+use Rattle.law_frame.specs.pg_run.pg_register.Place.{root}
+use Rattle.law_frame.specs.pg_run.pg_store.declared.store.Store.{Store}
+use Rattle.law_frame.specs.pg_run.pg_lookup.declared.paths.LookupError.{LookupError}
+use Rattle.law_frame.specs.pg_run.pg_lookup.declared.paths.LookupError.TheVariants as stop
+use Rattle.law_frame.specs.pg_run.pg_lookup.Walk.{and_then, is_dir_full, reach, reach_parent, shown_by}
+use Rattle.law_frame.specs.pg_run.pg_house.Returning.{is_root}
+use Rattle.law_frame.specs.pg_run.pg_checks.Answer.{unless}
+use Rattle.law_frame.specs.pg_run.pg_checks.Checks.{file_at, in_time, move_along, move_of, move_to, new_name, new_name_in, unless_shown, when_free}
+use Rattle.law_frame.specs.pg_run.pg_checks.Paths.{is_none, last_of, new_path_of, path_of, paths_of, with_new_name}
+use Rattle.law_frame.proofs.pg_run.pg_calls.Checked.{behind, no_ok, same_ok, unless_ok}
+use Rattle.law_frame.proofs.pg_run.pg_calls.Walked.{file_found as held_file, parent_found}
 
 -- what is said of one is said of the same
 under : {A B : Type 0} {x y : A} → x ≡ y → (f : A → B) → f x ≡ f y

@@ -1,30 +1,30 @@
 -- What the pieces of a message keep: places that suit, and answers that do.
 use Rattle.std.proofs.Common.{ℕ, ◌≡◌, ◌&&◌, not, true, false, refl, inr}
 use Rattle.std.proofs.lemmas.List.Elements.{All-push}
-use Rattle.pg_run.specs.pg_base.declared.id.FileId.{FileId}
-use Rattle.pg_run.specs.pg_intent.declared.key.IntentKey.{IntentKey}
-use Rattle.pg_run.specs.pg_intent.Intents.{aimed}
-use Rattle.pg_run.specs.pg_msg.declared.message.Message.{Message}
-use Rattle.pg_run.specs.pg_msg.declared.update.Update.TheVariants as update
-use Rattle.pg_run.specs.pg_msg.declared.work.Work.{Work}
-use Rattle.pg_run.specs.pg_msg.Work.{with_made}
-use Rattle.pg_run.specs.pg_names.Names as names
-use Rattle.pg_run.specs.pg_names.Names.{is_dir, own_or_blank, NamesValue, let_go as let_go_names}
-use Rattle.pg_run.specs.pg_register.declared.flag.Flag.{Flag}
-use Rattle.pg_run.specs.pg_register.declared.place.Place.{Place}
-use Rattle.pg_run.specs.pg_register.Place.{blank_place}
-use Rattle.pg_run.specs.pg_store.declared.store.Store.{Store}
-use Rattle.pg_run.specs.pg_store.Beginning.{with_intents, let_go}
-use Rattle.pg_run.specs.pg_store.Store.{with_names}
-use Rattle.pg_run.specs.pg_house.Work.{is_root}
-use Rattle.pg_run.proofs.pg_house.Truths.{chosen}
-use Rattle.pg_run.specs.pg_pieces.Making.{make_flag, own_next, raise_flag}
-use Rattle.pg_run.specs.pg_pieces.Posting.{reply}
+use Rattle.law_frame.specs.pg_run.pg_base.declared.id.FileId.{FileId}
+use Rattle.law_frame.specs.pg_run.pg_intent.declared.key.IntentKey.{IntentKey}
+use Rattle.law_frame.specs.pg_run.pg_intent.Intents.{aimed}
+use Rattle.law_frame.specs.pg_run.pg_msg.declared.message.Message.{Message}
+use Rattle.law_frame.specs.pg_run.pg_msg.declared.update.Update.TheVariants as update
+use Rattle.law_frame.specs.pg_run.pg_msg.declared.work.Work.{Work}
+use Rattle.law_frame.specs.pg_run.pg_msg.Work.{with_made}
+use Rattle.law_frame.specs.pg_run.pg_names.Names as names
+use Rattle.law_frame.specs.pg_run.pg_names.Names.{is_dir, own_or_blank, NamesValue, let_go as let_go_names}
+use Rattle.law_frame.specs.pg_run.pg_register.declared.flag.Flag.{Flag}
+use Rattle.law_frame.specs.pg_run.pg_register.declared.place.Place.{Place}
+use Rattle.law_frame.specs.pg_run.pg_register.Place.{blank_place}
+use Rattle.law_frame.specs.pg_run.pg_store.declared.store.Store.{Store}
+use Rattle.law_frame.specs.pg_run.pg_store.Beginning.{with_intents, let_go}
+use Rattle.law_frame.specs.pg_run.pg_store.Store.{with_names}
+use Rattle.law_frame.specs.pg_run.pg_house.Work.{is_root}
+use Rattle.law_frame.proofs.pg_run.pg_house.Truths.{chosen}
+use Rattle.law_frame.specs.pg_run.pg_pieces.Making.{make_flag, own_next, raise_flag}
+use Rattle.law_frame.specs.pg_run.pg_pieces.Posting.{reply}
 use Rattle.pg_trace.specs.Suited.{SuitsUpdate}
-use Rattle.pg_run.proofs.pg_names.Gone.{gone_stayed}
-use Rattle.pg_run.specs.pg_pieces.Done.{idle}
-use Rattle.pg_run.specs.pg_repair.Confirming.{own_entry}
-use Rattle.pg_run.specs.pg_repair.Fetching.{place_to_grant}
+use Rattle.law_frame.proofs.pg_run.pg_names.Gone.{gone_stayed}
+use Rattle.law_frame.specs.pg_run.pg_pieces.Done.{idle}
+use Rattle.law_frame.specs.pg_run.pg_repair.Confirming.{own_entry}
+use Rattle.law_frame.specs.pg_run.pg_repair.Fetching.{place_to_grant}
 use Rattle.law_printable.proofs.Intents.{aimed_suit}
 use Rattle.law_printable.proofs.Messages.{SuitsPost}
 use Rattle.law_printable.proofs.Places.{IsOwnPlace, NamesSuit, SuitsEntry, blank_suits, fill_suits, thing_place}

@@ -15,4 +15,3 @@ pub mod Entered
 pub mod Calls
 pub mod Entries
 pub mod Waiting
-pub use Rattle.pg_run.proofs as pg_run

@@ -1,11 +1,11 @@
 -- What was lost is given up: its dead place suits, and the place with which a directory begins anew.
 use Rattle.std.proofs.Common.{ℕ, ◌≡◌, true, Option, None, Some, refl, sym, subst, inr}
-use Rattle.pg_run.specs.pg_base.declared.id.FileId.{FileId}
-use Rattle.pg_run.specs.pg_entries.declared.entry.Entry.{Entry}
-use Rattle.pg_run.specs.pg_register.declared.place.Place.{Place}
-use Rattle.pg_run.specs.pg_store.declared.store.Store.{Store}
-use Rattle.pg_run.specs.pg_calls.Forgetting.{bare_entry, dead_at, dead_by, last_place, lists_in}
-use Rattle.pg_run.proofs.pg_calls.LastPlace.{last_is, listed_there}
+use Rattle.law_frame.specs.pg_run.pg_base.declared.id.FileId.{FileId}
+use Rattle.law_frame.specs.pg_run.pg_entries.declared.entry.Entry.{Entry}
+use Rattle.law_frame.specs.pg_run.pg_register.declared.place.Place.{Place}
+use Rattle.law_frame.specs.pg_run.pg_store.declared.store.Store.{Store}
+use Rattle.law_frame.specs.pg_run.pg_calls.Forgetting.{bare_entry, dead_at, dead_by, last_place, lists_in}
+use Rattle.law_frame.proofs.pg_run.pg_calls.LastPlace.{last_is, listed_there}
 use Rattle.law_frame.proofs.KeepsCalls.{lost_own}
 use Rattle.law_printable.proofs.Places.{IsOwnPlace, NamesSuit, SuitsEntry, cell_suits, own_place}
 

@@ -1,11 +1,11 @@
 -- A place that a server makes, and takes, suits.
 use Rattle.std.proofs.lemmas.List.Elements.{All-push}
-use Rattle.pg_run.specs.pg_base.declared.id.FileId.{FileId}
-use Rattle.pg_run.specs.pg_msg.declared.update.Update.TheVariants as update
-use Rattle.pg_run.specs.pg_msg.Work.{with_made}
-use Rattle.pg_run.specs.pg_register.declared.place.Place.{Place}
-use Rattle.pg_run.specs.pg_pieces.Done.{Done}
-use Rattle.pg_run.specs.pg_calls.Making.{make_place}
+use Rattle.law_frame.specs.pg_run.pg_base.declared.id.FileId.{FileId}
+use Rattle.law_frame.specs.pg_run.pg_msg.declared.update.Update.TheVariants as update
+use Rattle.law_frame.specs.pg_run.pg_msg.Work.{with_made}
+use Rattle.law_frame.specs.pg_run.pg_register.declared.place.Place.{Place}
+use Rattle.law_frame.specs.pg_run.pg_pieces.Done.{Done}
+use Rattle.law_frame.specs.pg_run.pg_calls.Making.{make_place}
 use Rattle.pg_trace.specs.Suited.{SuitsUpdate}
 use Rattle.law_printable.proofs.Places.{IsOwnPlace, suits_place}
 use Rattle.law_printable.proofs.Stores.{DoneSuits, place_noted}

@@ -1,20 +1,20 @@
 -- Messages that suit: what is told of them goes by their kinds, and the places that they carry are
 -- ones that their things may have.
 use Rattle.std.proofs.Common.{ℕ, ◌≡◌, List, All}
-use Rattle.pg_run.specs.pg_base.declared.id.FileId.{FileId}
-use Rattle.pg_run.specs.pg_base.declared.id.Kind.TheVariants.{Dir}
-use Rattle.pg_run.specs.pg_base.Id.{Fits}
-use Rattle.pg_run.specs.pg_entries.declared.cell.Cell.{Cell}
-use Rattle.pg_run.specs.pg_entries.declared.cell.Cell.TheVariants as cells
-use Rattle.pg_run.specs.pg_entries.declared.entry.Entry.{Entry}
-use Rattle.pg_run.specs.pg_msg.declared.message.Message.{Message}
-use Rattle.pg_run.specs.pg_msg.declared.message.Message.TheVariants as message
-use Rattle.pg_run.specs.pg_msg.declared.message.Sent.{Sent}
-use Rattle.pg_run.specs.pg_msg.Sent.{detail_of, file_of, kind_of, summary}
-use Rattle.pg_run.specs.pg_msg.Text.{IsAbout, IsDetail, sort_of}
-use Rattle.pg_run.specs.pg_words.FileWord.{IsDirectory}
-use Rattle.pg_run.specs.pg_store.declared.store.Store.{Store}
-use Rattle.pg_run.specs.pg_pieces.Posting.{sent_to}
+use Rattle.law_frame.specs.pg_run.pg_base.declared.id.FileId.{FileId}
+use Rattle.law_frame.specs.pg_run.pg_base.declared.id.Kind.TheVariants.{Dir}
+use Rattle.law_frame.specs.pg_run.pg_base.Id.{Fits}
+use Rattle.law_frame.specs.pg_run.pg_entries.declared.cell.Cell.{Cell}
+use Rattle.law_frame.specs.pg_run.pg_entries.declared.cell.Cell.TheVariants as cells
+use Rattle.law_frame.specs.pg_run.pg_entries.declared.entry.Entry.{Entry}
+use Rattle.law_frame.specs.pg_run.pg_msg.declared.message.Message.{Message}
+use Rattle.law_frame.specs.pg_run.pg_msg.declared.message.Message.TheVariants as message
+use Rattle.law_frame.specs.pg_run.pg_msg.declared.message.Sent.{Sent}
+use Rattle.law_frame.specs.pg_run.pg_msg.Sent.{detail_of, file_of, kind_of, summary}
+use Rattle.law_frame.specs.pg_run.pg_msg.Text.{IsAbout, IsDetail, sort_of}
+use Rattle.law_frame.specs.pg_run.pg_words.FileWord.{IsDirectory}
+use Rattle.law_frame.specs.pg_run.pg_store.declared.store.Store.{Store}
+use Rattle.law_frame.specs.pg_run.pg_pieces.Posting.{sent_to}
 use Rattle.pg_trace.specs.Suited.{DetailFits, SuitsKind}
 use Rattle.law_printable.proofs.Places.{IsOwnPlace, SuitsEntry}
 

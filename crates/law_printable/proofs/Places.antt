@@ -5,24 +5,24 @@ use Rattle.std.specs.BTreeMap.{insert_entry, is_at}
 use Rattle.std.specs.Map.{lookup}
 use Rattle.std.proofs.lemmas.List.Elements.{All-head, All-nil, All-tail}
 use Rattle.std.proofs.lemmas.Option.{none-some, same_Some}
-use Rattle.pg_run.specs.pg_base.declared.id.FileId.{FileId}
-use Rattle.pg_run.specs.pg_base.declared.id.Kind.TheVariants.{Dir}
-use Rattle.pg_run.specs.pg_base.Id.{file_cmp, is_same_file}
-use Rattle.pg_run.specs.pg_base.Stamp.{is_before}
-use Rattle.pg_run.proofs.pg_base.Entries.{All-insert_entry}
-use Rattle.pg_run.proofs.pg_base.Maps.{lookup-insert_entry}
-use Rattle.pg_run.proofs.pg_base.Orders.{file_total, is_same_file-true}
-use Rattle.pg_run.specs.pg_path.Name.{IsClientName}
-use Rattle.pg_run.specs.pg_register.declared.flag.Flag.{Flag}
-use Rattle.pg_run.specs.pg_register.declared.place.Place.{Place}
-use Rattle.pg_run.specs.pg_register.Place.{newer_place, tilde_name}
-use Rattle.pg_run.specs.pg_entries.declared.entry.Entry.{Entry}
-use Rattle.pg_run.specs.pg_entries.Entry.{entry_of, joined_to}
-use Rattle.pg_run.specs.pg_names.declared.attributes.Attributes.{Attributes}
-use Rattle.pg_run.specs.pg_names.Names.{InodeValue, NamesValue, begin, cell_at, changed, entry_in, fill, filled, join_entry, join_flag, join_place, known, new_held, or_blank, own_at, own_of, own_or_blank, set_entry, set_own, update, with_entry, with_flag, with_joined, with_own, with_place}
-use Rattle.pg_run.proofs.pg_names.Lookups.{known_held}
-use Rattle.pg_run.specs.pg_house.Returning.{is_root}
-use Rattle.pg_run.proofs.pg_house.Truths.{chosen}
+use Rattle.law_frame.specs.pg_run.pg_base.declared.id.FileId.{FileId}
+use Rattle.law_frame.specs.pg_run.pg_base.declared.id.Kind.TheVariants.{Dir}
+use Rattle.law_frame.specs.pg_run.pg_base.Id.{file_cmp, is_same_file}
+use Rattle.law_frame.specs.pg_run.pg_base.Stamp.{is_before}
+use Rattle.law_frame.proofs.pg_run.pg_base.Entries.{All-insert_entry}
+use Rattle.law_frame.proofs.pg_run.pg_base.Maps.{lookup-insert_entry}
+use Rattle.law_frame.proofs.pg_run.pg_base.Orders.{file_total, is_same_file-true}
+use Rattle.law_frame.specs.pg_run.pg_path.Name.{IsClientName}
+use Rattle.law_frame.specs.pg_run.pg_register.declared.flag.Flag.{Flag}
+use Rattle.law_frame.specs.pg_run.pg_register.declared.place.Place.{Place}
+use Rattle.law_frame.specs.pg_run.pg_register.Place.{newer_place, tilde_name}
+use Rattle.law_frame.specs.pg_run.pg_entries.declared.entry.Entry.{Entry}
+use Rattle.law_frame.specs.pg_run.pg_entries.Entry.{entry_of, joined_to}
+use Rattle.law_frame.specs.pg_run.pg_names.declared.attributes.Attributes.{Attributes}
+use Rattle.law_frame.specs.pg_run.pg_names.Names.{InodeValue, NamesValue, begin, cell_at, changed, entry_in, fill, filled, join_entry, join_flag, join_place, known, new_held, or_blank, own_at, own_of, own_or_blank, set_entry, set_own, update, with_entry, with_flag, with_joined, with_own, with_place}
+use Rattle.law_frame.proofs.pg_run.pg_names.Lookups.{known_held}
+use Rattle.law_frame.specs.pg_run.pg_house.Returning.{is_root}
+use Rattle.law_frame.proofs.pg_run.pg_house.Truths.{chosen}
 use Rattle.pg_trace.specs.Suited.{SuitsPlace}
 
 -- ---- places

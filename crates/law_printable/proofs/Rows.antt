@@ -10,21 +10,21 @@ use Rattle.std.proofs.lemmas.List.{length-append, length-take}
 use Rattle.std.proofs.lemmas.List.Elements.{All-append, All-cons, All-drop, All-head, All-nil, All-tail, All-take, All-weaker, recursion_from_All}
 use Rattle.std.specs.Str.Parse.{AllDigits}
 use Rattle.std.proofs.lemmas.Str.Parse.{tells_digits}
-use Rattle.pg_run.specs.pg_base.declared.id.FileId.{FileId}
-use Rattle.pg_run.specs.pg_base.declared.id.Kind.{Kind}
-use Rattle.pg_run.specs.pg_base.declared.id.Kind.TheVariants.{Dir, File}
-use Rattle.pg_run.specs.pg_base.Id.{Fits, letter, spelling}
-use Rattle.pg_run.proofs.pg_base.Numerals.{own}
-use Rattle.pg_run.specs.pg_path.Name.{IsComponentByte, IsNameByte}
-use Rattle.pg_run.specs.pg_path.Path.{IsComponent}
-use Rattle.pg_run.specs.pg_path.declared.row.Row.{Row}
-use Rattle.pg_run.specs.pg_register.Place.{tilde_name}
-use Rattle.pg_run.specs.pg_entries.declared.entry.Entry.{Entry}
-use Rattle.pg_run.specs.pg_entries.Entry.{is_listed}
-use Rattle.pg_run.specs.pg_entries.Shown.{insert_row, is_hidden, row_cmp, row_of, rows_in_order, rows_of}
-use Rattle.pg_run.specs.pg_names.Names.{InodeValue, NamesValue, known}
-use Rattle.pg_run.proofs.pg_house.Truths.{chosen}
-use Rattle.pg_run.specs.pg_calls.Looks.{listing, page}
+use Rattle.law_frame.specs.pg_run.pg_base.declared.id.FileId.{FileId}
+use Rattle.law_frame.specs.pg_run.pg_base.declared.id.Kind.{Kind}
+use Rattle.law_frame.specs.pg_run.pg_base.declared.id.Kind.TheVariants.{Dir, File}
+use Rattle.law_frame.specs.pg_run.pg_base.Id.{Fits, letter, spelling}
+use Rattle.law_frame.proofs.pg_run.pg_base.Numerals.{own}
+use Rattle.law_frame.specs.pg_run.pg_path.Name.{IsComponentByte, IsNameByte}
+use Rattle.law_frame.specs.pg_run.pg_path.Path.{IsComponent}
+use Rattle.law_frame.specs.pg_run.pg_path.declared.row.Row.{Row}
+use Rattle.law_frame.specs.pg_run.pg_register.Place.{tilde_name}
+use Rattle.law_frame.specs.pg_run.pg_entries.declared.entry.Entry.{Entry}
+use Rattle.law_frame.specs.pg_run.pg_entries.Entry.{is_listed}
+use Rattle.law_frame.specs.pg_run.pg_entries.Shown.{insert_row, is_hidden, row_cmp, row_of, rows_in_order, rows_of}
+use Rattle.law_frame.specs.pg_run.pg_names.Names.{InodeValue, NamesValue, known}
+use Rattle.law_frame.proofs.pg_run.pg_house.Truths.{chosen}
+use Rattle.law_frame.specs.pg_run.pg_calls.Looks.{listing, page}
 use Rattle.pg_trace.specs.Suited.{IsCallAnswer, SuitsRow}
 use Rattle.law_printable.proofs.Places.{IsThingName, NamesSuit, SuitEntries, SuitsEntry}
 

@@ -2,22 +2,22 @@
 use Rattle.std.proofs.Common.{ℕ, zero, suc, ◌==◌, cond, true, List, [], ◌∷◌, ◌++◌, map, length, All, refl, inl}
 use Rattle.std.proofs.lemmas.List.Elements.{All-append, All-cons, All-head, All-nil, All-tail}
 use Rattle.std.proofs.lemmas.Option.{none-some}
-use Rattle.pg_run.specs.pg_event.declared.event.Event.{Event}
-use Rattle.pg_run.specs.pg_event.declared.quiet.Cause.{Cause}
-use Rattle.pg_run.specs.pg_event.declared.quiet.Cause.TheVariants.{Message, Owed, View}
-use Rattle.pg_run.specs.pg_event.declared.quiet.Owing.{Owing}
-use Rattle.pg_run.specs.pg_msg.declared.message.Sent.{Sent}
-use Rattle.pg_run.specs.pg_msg.Sent.{summary}
-use Rattle.pg_run.specs.pg_names.Names.{new_names}
-use Rattle.pg_run.specs.pg_register.Place.{root}
-use Rattle.pg_run.specs.pg_store.Start.{root_own}
-use Rattle.pg_run.specs.pg_store.Seen.{view_of}
-use Rattle.pg_run.proofs.pg_house.Truths.{chosen}
-use Rattle.pg_run.specs.pg_server.Owing.{owed}
-use Rattle.pg_run.specs.Journal.{bag, removals}
-use Rattle.pg_run.specs.Quiet.{causes, first_of, lag, of_live}
-use Rattle.pg_run.specs.Run.{World, is_live, run, start}
-use Rattle.pg_run.proofs.Frame.{all_under_way, holds_in_runs, no_server_comes}
+use Rattle.law_frame.specs.pg_run.pg_event.declared.event.Event.{Event}
+use Rattle.law_frame.specs.pg_run.pg_event.declared.quiet.Cause.{Cause}
+use Rattle.law_frame.specs.pg_run.pg_event.declared.quiet.Cause.TheVariants.{Message, Owed, View}
+use Rattle.law_frame.specs.pg_run.pg_event.declared.quiet.Owing.{Owing}
+use Rattle.law_frame.specs.pg_run.pg_msg.declared.message.Sent.{Sent}
+use Rattle.law_frame.specs.pg_run.pg_msg.Sent.{summary}
+use Rattle.law_frame.specs.pg_run.pg_names.Names.{new_names}
+use Rattle.law_frame.specs.pg_run.pg_register.Place.{root}
+use Rattle.law_frame.specs.pg_run.pg_store.Start.{root_own}
+use Rattle.law_frame.specs.pg_run.pg_store.Seen.{view_of}
+use Rattle.law_frame.proofs.pg_run.pg_house.Truths.{chosen}
+use Rattle.law_frame.specs.pg_run.pg_server.Owing.{owed}
+use Rattle.law_frame.specs.pg_run.Journal.{bag, removals}
+use Rattle.law_frame.specs.pg_run.Quiet.{causes, first_of, lag, of_live}
+use Rattle.law_frame.specs.pg_run.Run.{World, is_live, run, start}
+use Rattle.law_frame.proofs.pg_run.Frame.{all_under_way, holds_in_runs, no_server_comes}
 use Rattle.pg_trace.specs.Suited.{SuitsCause, SuitsQuiet}
 use Rattle.law_printable.specs.Laws.{AnswersSuit, EntriesSuit, PlacesSuit}
 use Rattle.law_printable.proofs.Entries.{RunSuits, acted_suits, idle_suits, next_suits}

@@ -1,11 +1,11 @@
 -- What is told of any run suits what is written of it.
 use Rattle.std.specs.Prelude.{ℕ, ◌≡◌, List, Some}
-use Rattle.pg_run.specs.pg_base.declared.id.FileId.{FileId}
-use Rattle.pg_run.specs.pg_event.Event.{IsEvent}
-use Rattle.pg_run.specs.pg_event.declared.event.Event.{Event}
-use Rattle.pg_run.specs.pg_names.Names.{InodeValue, known}
-use Rattle.pg_run.specs.Quiet.{quiet_of}
-use Rattle.pg_run.specs.Run.{next, run}
+use Rattle.law_frame.specs.pg_run.pg_base.declared.id.FileId.{FileId}
+use Rattle.law_frame.specs.pg_run.pg_event.Event.{IsEvent}
+use Rattle.law_frame.specs.pg_run.pg_event.declared.event.Event.{Event}
+use Rattle.law_frame.specs.pg_run.pg_names.Names.{InodeValue, known}
+use Rattle.law_frame.specs.pg_run.Quiet.{quiet_of}
+use Rattle.law_frame.specs.pg_run.Run.{next, run}
 use Rattle.pg_trace.specs.Suited.{IsSuited, SuitsPlace, SuitsQuiet}
 
 -- after any events, the entry of one more that a schedule may have suits

@@ -4,44 +4,44 @@ use Rattle.std.proofs.Common.{[], ℕ, ◌≡◌, ◌⊎◌, Bool, List, ◌∷�
 use Rattle.std.specs.List.{IsAmong, flat_map}
 use Rattle.std.proofs.lemmas.Bool.{false≢true}
 use Rattle.std.proofs.lemmas.List.Elements.{All-nil, All-cons, All-weaker}
-use Rattle.law_listings.specs.pg_base.declared.id.FileId.{FileId}
-use Rattle.law_listings.specs.pg_base.Version.{VersionValue}
-use Rattle.law_listings.specs.pg_content.Covering.{AreCoveredBy, IsUpToHead}
-use Rattle.law_listings.specs.pg_content.StandsFor.{InStrictOrder}
-use Rattle.law_listings.specs.pg_edges.declared.edge.Edge.{Edge}
-use Rattle.law_listings.specs.pg_edges.declared.key.Key.{Key}
-use Rattle.law_listings.specs.pg_edges.declared.key.Key.TheVariants as key
-use Rattle.law_listings.specs.pg_edges.Keys.{tag_in}
-use Rattle.law_listings.specs.theory_flood.Server.{Holds, HoldsAll}
-use Rattle.law_listings.proofs.theory_flood.Servers.{some_same}
-use Rattle.law_listings.specs.pg_entries.declared.cell.Cell.{Cell}
-use Rattle.law_listings.specs.pg_entries.declared.cell.Cell.TheVariants as cell
-use Rattle.law_listings.specs.pg_entries.declared.entry.Entry.{Entry}
-use Rattle.law_listings.specs.pg_event.declared.quiet.Owing.TheVariants as owing
-use Rattle.law_listings.specs.pg_names.Names.{cell_at as entry_at, own_or_blank}
-use Rattle.law_listings.specs.pg_register.declared.flag.Flag.{Flag}
-use Rattle.law_listings.specs.pg_register.declared.place.Place.{Place}
-use Rattle.law_listings.specs.pg_register.Flag.{flag_of}
-use Rattle.law_listings.specs.pg_replica.declared.replica.Replica.{Replica}
-use Rattle.law_listings.specs.pg_replica.Replica.{cell_at as head_at, key_of}
-use Rattle.law_listings.specs.pg_replica.Replicas.{is_of_birth}
-use Rattle.law_listings.proofs.pg_replica.Growth.{cell_head, head_at as head_found}
-use Rattle.law_listings.specs.pg_store.declared.store.Store.{Store}
-use Rattle.law_listings.specs.pg_store.Cells.{cell_at, entry_cell, flag_cell, is_sure, version_cell}
-use Rattle.law_listings.specs.pg_store.Seen.{server_of}
-use Rattle.law_listings.specs.pg_store.Store.{content_of, replica_at}
-use Rattle.law_listings.specs.pg_store.Together.{IsOver}
-use Rattle.law_listings.specs.pg_server.Owing.{edge_owes, intent_owed, owed, owed_intents, owed_keys, owed_places, replica_owes}
-use Rattle.law_listings.specs.theory_flood_pieces.Names.{IsEntryKnownBy}
-use Rattle.law_listings.specs.theory_flood_pieces.UpTo.{AreFlagsUpTo, IsFlagKnownBy, IsPlaceUpTo, IsUpTo}
-use Rattle.law_listings.specs.theory_flood_pieces.Whole.{AreByChild, AreEdges, IsEdge, IsOther, IsWhole}
-use Rattle.law_listings.proofs.theory_flood_pieces.Choices.{found_replica}
-use Rattle.law_listings.proofs.theory_flood_pieces.Sending.{own_key}
-use Rattle.law_listings.specs.pg_run.Acknowledged.{IsHadThere}
-use Rattle.law_listings.specs.pg_run.Graphs.{HasEdge}
-use Rattle.law_listings.specs.pg_run.Run.{World}
-use Rattle.law_listings.proofs.pg_run.Found.{IsEdgeTo, listed_edge}
-use Rattle.law_listings.proofs.pg_run.QuietAnswers.{both_empty, map_empty}
+use Rattle.pg_run.specs.pg_base.declared.id.FileId.{FileId}
+use Rattle.pg_run.specs.pg_base.Version.{VersionValue}
+use Rattle.pg_run.specs.pg_content.Covering.{AreCoveredBy, IsUpToHead}
+use Rattle.pg_run.specs.pg_content.StandsFor.{InStrictOrder}
+use Rattle.pg_run.specs.pg_edges.declared.edge.Edge.{Edge}
+use Rattle.pg_run.specs.pg_edges.declared.key.Key.{Key}
+use Rattle.pg_run.specs.pg_edges.declared.key.Key.TheVariants as key
+use Rattle.pg_run.specs.pg_edges.Keys.{tag_in}
+use Rattle.pg_run.specs.theory_flood.Server.{Holds, HoldsAll}
+use Rattle.pg_run.proofs.theory_flood.Servers.{some_same}
+use Rattle.pg_run.specs.pg_entries.declared.cell.Cell.{Cell}
+use Rattle.pg_run.specs.pg_entries.declared.cell.Cell.TheVariants as cell
+use Rattle.pg_run.specs.pg_entries.declared.entry.Entry.{Entry}
+use Rattle.pg_run.specs.pg_event.declared.quiet.Owing.TheVariants as owing
+use Rattle.pg_run.specs.pg_names.Names.{cell_at as entry_at, own_or_blank}
+use Rattle.pg_run.specs.pg_register.declared.flag.Flag.{Flag}
+use Rattle.pg_run.specs.pg_register.declared.place.Place.{Place}
+use Rattle.pg_run.specs.pg_register.Flag.{flag_of}
+use Rattle.pg_run.specs.pg_replica.declared.replica.Replica.{Replica}
+use Rattle.pg_run.specs.pg_replica.Replica.{cell_at as head_at, key_of}
+use Rattle.pg_run.specs.pg_replica.Replicas.{is_of_birth}
+use Rattle.pg_run.proofs.pg_replica.Growth.{cell_head, head_at as head_found}
+use Rattle.pg_run.specs.pg_store.declared.store.Store.{Store}
+use Rattle.pg_run.specs.pg_store.Cells.{cell_at, entry_cell, flag_cell, is_sure, version_cell}
+use Rattle.pg_run.specs.pg_store.Seen.{server_of}
+use Rattle.pg_run.specs.pg_store.Store.{content_of, replica_at}
+use Rattle.pg_run.specs.pg_store.Together.{IsOver}
+use Rattle.pg_run.specs.pg_server.Owing.{edge_owes, intent_owed, owed, owed_intents, owed_keys, owed_places, replica_owes}
+use Rattle.pg_run.specs.theory_flood_pieces.Names.{IsEntryKnownBy}
+use Rattle.pg_run.specs.theory_flood_pieces.UpTo.{AreFlagsUpTo, IsFlagKnownBy, IsPlaceUpTo, IsUpTo}
+use Rattle.pg_run.specs.theory_flood_pieces.Whole.{AreByChild, AreEdges, IsEdge, IsOther, IsWhole}
+use Rattle.pg_run.proofs.theory_flood_pieces.Choices.{found_replica}
+use Rattle.pg_run.proofs.theory_flood_pieces.Sending.{own_key}
+use Rattle.pg_run.specs.Acknowledged.{IsHadThere}
+use Rattle.pg_run.specs.Graphs.{HasEdge}
+use Rattle.pg_run.specs.Run.{World}
+use Rattle.pg_run.proofs.Found.{IsEdgeTo, listed_edge}
+use Rattle.pg_run.proofs.QuietAnswers.{both_empty, map_empty}
 
 -- what holds of all holds of a member
 of_member : {A : Type 0} (P : A → Type 0) (xs : List A) (x : A) → All P xs → IsAmong xs x → P x

@@ -4,35 +4,35 @@ use Rattle.std.proofs.Common.{[], ℕ, ◌≡◌, ◌≤◌, not, true, false, l
 use Rattle.std.proofs.lemmas.Bool.{false≢true, and_from}
 use Rattle.std.proofs.lemmas.Bool.Decides.{nat_tests}
 use Rattle.std.proofs.lemmas.List.{take_all}
-use Rattle.law_listings.specs.pg_base.declared.id.FileId.{FileId}
-use Rattle.law_listings.specs.pg_content.Content.{Among, ContentValue}
-use Rattle.law_listings.specs.pg_content.Covering.{AreCoveredBy}
-use Rattle.law_listings.specs.pg_content.StandsFor.{InStrictOrder}
-use Rattle.law_listings.proofs.pg_content.Covering.{covered_same}
-use Rattle.law_listings.specs.pg_event.declared.event.Event.{Event}
-use Rattle.law_listings.specs.pg_entries.declared.entry.Entry.{Entry}
-use Rattle.law_listings.specs.pg_names.declared.attributes.Attributes.{Attributes}
-use Rattle.law_listings.specs.pg_names.Names.{InodeValue, cell_at, known, or_blank, own_at, own_of, own_or_blank}
-use Rattle.law_listings.proofs.pg_names.Alike.{own_of_parts}
-use Rattle.law_listings.specs.pg_register.declared.flag.Flag.{Flag}
-use Rattle.law_listings.specs.pg_register.Flag.{flag_of, is_removed}
-use Rattle.law_listings.specs.pg_register.Laws.{IsOneFlag}
-use Rattle.law_listings.specs.pg_replica.declared.replica.Replica.{Replica}
-use Rattle.law_listings.specs.pg_replica.Replicas.{or_nothing}
-use Rattle.law_listings.specs.pg_store.declared.store.Store.{Store}
-use Rattle.law_listings.specs.pg_store.Seen.{removed_of, view_of}
-use Rattle.law_listings.specs.pg_store.Store.{content_of, replica_at}
-use Rattle.law_listings.specs.theory_flood_pieces.UpTo.{AreFlagsUpTo, IsPlaceUpTo}
-use Rattle.law_listings.specs.theory_flood_pieces.Whole.{IsWhole}
-use Rattle.law_listings.specs.pg_run.Graphs.{AreJoined, HasEdge, IsChain}
-use Rattle.law_listings.specs.pg_run.Journal.{removals, versions}
-use Rattle.law_listings.specs.pg_run.Known.{AreTold, IsFlagOf, IsStoreTold, of_run}
-use Rattle.law_listings.specs.pg_run.Laws.{content_taken}
-use Rattle.law_listings.specs.pg_run.Quiet.{IsQuiet}
-use Rattle.law_listings.specs.pg_run.Run.{World, is_live, is_server, run}
-use Rattle.law_listings.specs.pg_run.State.{versions_taken}
-use Rattle.law_listings.proofs.pg_run.Found.{flag_found, listed_edge}
-use Rattle.law_listings.proofs.pg_run.Frame.{live_is}
+use Rattle.pg_run.specs.pg_base.declared.id.FileId.{FileId}
+use Rattle.pg_run.specs.pg_content.Content.{Among, ContentValue}
+use Rattle.pg_run.specs.pg_content.Covering.{AreCoveredBy}
+use Rattle.pg_run.specs.pg_content.StandsFor.{InStrictOrder}
+use Rattle.pg_run.proofs.pg_content.Covering.{covered_same}
+use Rattle.pg_run.specs.pg_event.declared.event.Event.{Event}
+use Rattle.pg_run.specs.pg_entries.declared.entry.Entry.{Entry}
+use Rattle.pg_run.specs.pg_names.declared.attributes.Attributes.{Attributes}
+use Rattle.pg_run.specs.pg_names.Names.{InodeValue, cell_at, known, or_blank, own_at, own_of, own_or_blank}
+use Rattle.pg_run.proofs.pg_names.Alike.{own_of_parts}
+use Rattle.pg_run.specs.pg_register.declared.flag.Flag.{Flag}
+use Rattle.pg_run.specs.pg_register.Flag.{flag_of, is_removed}
+use Rattle.pg_run.specs.pg_register.Laws.{IsOneFlag}
+use Rattle.pg_run.specs.pg_replica.declared.replica.Replica.{Replica}
+use Rattle.pg_run.specs.pg_replica.Replicas.{or_nothing}
+use Rattle.pg_run.specs.pg_store.declared.store.Store.{Store}
+use Rattle.pg_run.specs.pg_store.Seen.{removed_of, view_of}
+use Rattle.pg_run.specs.pg_store.Store.{content_of, replica_at}
+use Rattle.pg_run.specs.theory_flood_pieces.UpTo.{AreFlagsUpTo, IsPlaceUpTo}
+use Rattle.pg_run.specs.theory_flood_pieces.Whole.{IsWhole}
+use Rattle.pg_run.specs.Graphs.{AreJoined, HasEdge, IsChain}
+use Rattle.pg_run.specs.Journal.{removals, versions}
+use Rattle.pg_run.specs.Known.{AreTold, IsFlagOf, IsStoreTold, of_run}
+use Rattle.pg_run.specs.Laws.{content_taken}
+use Rattle.pg_run.specs.Quiet.{IsQuiet}
+use Rattle.pg_run.specs.Run.{World, is_live, is_server, run}
+use Rattle.pg_run.specs.State.{versions_taken}
+use Rattle.pg_run.proofs.Found.{flag_found, listed_edge}
+use Rattle.pg_run.proofs.Frame.{live_is}
 use Rattle.law_quiet.specs.Given.{AgreementIsGiven}
 use Rattle.law_quiet.specs.Laws.{HoldTheSame, QuietStoresAgree}
 use Rattle.law_quiet.proofs.Across.{IsHadAcross, entries_up, flags_up, heads_up, peer_is, place_up}

@@ -2,16 +2,16 @@
 -- and no two flags of one server have one birth and number.
 use Rattle.std.proofs.Common.{ℕ, ◌≡◌, ◌==◌, ◌&&◌, ◌||◌, nat_lt, false, List, Option, None, Some, refl, ap, arith}
 use Rattle.std.proofs.lemmas.Bool.Decides.{nat_tests}
-use Rattle.law_listings.proofs.pg_base.Orders.{UpTo-same}
-use Rattle.law_listings.specs.pg_register.declared.flag.Flag.{Flag}
-use Rattle.law_listings.specs.pg_register.declared.place.Place.{Place}
-use Rattle.law_listings.specs.pg_register.Flag.{IsByServer, flag_of}
-use Rattle.law_listings.specs.pg_register.Laws.{IsOneFlag, IsOnePlace}
-use Rattle.law_listings.proofs.pg_register.ByServer.{same_flags}
-use Rattle.law_listings.specs.pg_entries.declared.entry.Entry.{Entry}
-use Rattle.law_listings.proofs.pg_names.Alike.{entry_of_parts}
-use Rattle.law_listings.specs.theory_flood_pieces.Names.{IsEntryKnownBy}
-use Rattle.law_listings.specs.theory_flood_pieces.UpTo.{AreFlagsUpTo, IsEntryUpTo, IsFlagKnownBy, IsFlagUpTo, IsPlaceUpTo}
+use Rattle.pg_run.proofs.pg_base.Orders.{UpTo-same}
+use Rattle.pg_run.specs.pg_register.declared.flag.Flag.{Flag}
+use Rattle.pg_run.specs.pg_register.declared.place.Place.{Place}
+use Rattle.pg_run.specs.pg_register.Flag.{IsByServer, flag_of}
+use Rattle.pg_run.specs.pg_register.Laws.{IsOneFlag, IsOnePlace}
+use Rattle.pg_run.proofs.pg_register.ByServer.{same_flags}
+use Rattle.pg_run.specs.pg_entries.declared.entry.Entry.{Entry}
+use Rattle.pg_run.proofs.pg_names.Alike.{entry_of_parts}
+use Rattle.pg_run.specs.theory_flood_pieces.Names.{IsEntryKnownBy}
+use Rattle.pg_run.specs.theory_flood_pieces.UpTo.{AreFlagsUpTo, IsEntryUpTo, IsFlagKnownBy, IsFlagUpTo, IsPlaceUpTo}
 
 -- ---- places
 

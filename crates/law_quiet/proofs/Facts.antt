@@ -2,25 +2,25 @@
 -- hold a thing hold the same of it.
 use Rattle.std.proofs.Common.{ℕ, ◌≡◌, Bool, true, false, List, [], Option, None, Some, is_some, refl, sym, ap, subst, ◌∙◌, inl, inr}
 use Rattle.std.proofs.lemmas.Bool.{false≢true}
-use Rattle.law_listings.specs.pg_base.declared.id.FileId.{FileId}
-use Rattle.law_listings.specs.pg_base.Id.{is_same_file}
-use Rattle.law_listings.specs.pg_event.declared.event.Event.{Event}
-use Rattle.law_listings.specs.pg_intent.declared.key.IntentKey.{IntentKey}
-use Rattle.law_listings.specs.pg_intent.Intents.{stands}
-use Rattle.law_listings.specs.pg_names.declared.attributes.Attributes.{Attributes}
-use Rattle.law_listings.specs.pg_names.Names.{InodeValue, NamesValue, is_full_of, known, own_at, own_of}
-use Rattle.law_listings.specs.pg_register.Place.{root}
-use Rattle.law_listings.specs.pg_replica.declared.replica.Replica.{Replica}
-use Rattle.law_listings.specs.pg_store.declared.store.Store.{Store}
-use Rattle.law_listings.specs.pg_store.Store.{is_full, replica_at}
-use Rattle.law_listings.specs.theory_flood_pieces.Whole.{IsWhole}
-use Rattle.law_listings.specs.pg_run.Graphs.{AreConnected, Holds}
-use Rattle.law_listings.specs.pg_run.Intending.{IntendsInOrder}
-use Rattle.law_listings.specs.pg_run.Laws.{AtLive, IsInOrder}
-use Rattle.law_listings.specs.pg_run.Quiet.{IsQuiet}
-use Rattle.law_listings.specs.pg_run.Run.{World, is_live, run}
-use Rattle.law_listings.proofs.pg_run.Frame.{live_is}
-use Rattle.law_listings.specs.pg_intent.declared.key.IntentKey.TheVariants as intent_key
+use Rattle.pg_run.specs.pg_base.declared.id.FileId.{FileId}
+use Rattle.pg_run.specs.pg_base.Id.{is_same_file}
+use Rattle.pg_run.specs.pg_event.declared.event.Event.{Event}
+use Rattle.pg_run.specs.pg_intent.declared.key.IntentKey.{IntentKey}
+use Rattle.pg_run.specs.pg_intent.Intents.{stands}
+use Rattle.pg_run.specs.pg_names.declared.attributes.Attributes.{Attributes}
+use Rattle.pg_run.specs.pg_names.Names.{InodeValue, NamesValue, is_full_of, known, own_at, own_of}
+use Rattle.pg_run.specs.pg_register.Place.{root}
+use Rattle.pg_run.specs.pg_replica.declared.replica.Replica.{Replica}
+use Rattle.pg_run.specs.pg_store.declared.store.Store.{Store}
+use Rattle.pg_run.specs.pg_store.Store.{is_full, replica_at}
+use Rattle.pg_run.specs.theory_flood_pieces.Whole.{IsWhole}
+use Rattle.pg_run.specs.Graphs.{AreConnected, Holds}
+use Rattle.pg_run.specs.Intending.{IntendsInOrder}
+use Rattle.pg_run.specs.Laws.{AtLive, IsInOrder}
+use Rattle.pg_run.specs.Quiet.{IsQuiet}
+use Rattle.pg_run.specs.Run.{World, is_live, run}
+use Rattle.pg_run.proofs.Frame.{live_is}
+use Rattle.pg_run.specs.pg_intent.declared.key.IntentKey.TheVariants as intent_key
 use Rattle.law_quiet.specs.Given.{AreNamedWell, ArePlaced, TreeIsGiven}
 use Rattle.law_quiet.specs.Laws.{HoldTheSame}
 use Rattle.law_quiet.proofs.Across.{nothing_intended}

@@ -1,14 +1,14 @@
 -- Wherever a run is quiet servers agree, where what they hold is what they took; and their names
 -- form a tree.
 use Rattle.std.proofs.Common.{[], ℕ, ◌≡◌, List, ◌∷◌, Option, refl, sym, ap, subst, ◌∙◌, inl, inr}
-use Rattle.law_listings.specs.pg_base.declared.id.FileId.{FileId}
-use Rattle.law_listings.specs.pg_replica.declared.replica.Replica.{Replica}
-use Rattle.law_listings.specs.pg_replica.Replicas.{or_nothing}
-use Rattle.law_listings.specs.pg_store.Store.{content_of}
-use Rattle.law_listings.specs.pg_run.Graphs.{Holds, IsChain}
-use Rattle.law_listings.specs.pg_run.Laws.{Agree, HoldsWhatItTook, NamesMerge, QuietDirectoriesAreBroughtBack, QuietJoinedServersAgree, QuietNamesFormATree, QuietServersAgree, QuietThingsAreListedOnlyWhereTheyStand, content_taken}
-use Rattle.law_listings.specs.pg_run.Run.{World, run}
-use Rattle.law_listings.proofs.pg_run.Frame.{live_is}
+use Rattle.pg_run.specs.pg_base.declared.id.FileId.{FileId}
+use Rattle.pg_run.specs.pg_replica.declared.replica.Replica.{Replica}
+use Rattle.pg_run.specs.pg_replica.Replicas.{or_nothing}
+use Rattle.pg_run.specs.pg_store.Store.{content_of}
+use Rattle.pg_run.specs.Graphs.{Holds, IsChain}
+use Rattle.pg_run.specs.Laws.{Agree, HoldsWhatItTook, NamesMerge, QuietDirectoriesAreBroughtBack, QuietJoinedServersAgree, QuietNamesFormATree, QuietServersAgree, QuietThingsAreListedOnlyWhereTheyStand, content_taken}
+use Rattle.pg_run.specs.Run.{World, run}
+use Rattle.pg_run.proofs.Frame.{live_is}
 use Rattle.law_quiet.specs.Given.{TreeIsGiven}
 use Rattle.law_quiet.specs.Laws.{QuietStoresAgree}
 use Rattle.law_quiet.proofs.Facts.{facts_of}

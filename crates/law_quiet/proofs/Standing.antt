@@ -3,28 +3,28 @@
 use Rattle.std.proofs.Common.{ℕ, ◌≡◌, ◌&&◌, not, Bool, true, false, List, [], Option, Some, refl, sym, ap, subst, ◌∙◌, inl, inr}
 use Rattle.std.specs.Map.{keys_of}
 use Rattle.std.proofs.lemmas.Bool.{false≢true, and_from, and_left, not_from_false}
-use Rattle.law_listings.specs.pg_base.declared.id.FileId.{FileId}
-use Rattle.law_listings.specs.pg_base.Id.{is_same_file}
-use Rattle.law_listings.specs.pg_base.Stamp.{is_before}
-use Rattle.law_listings.proofs.pg_base.Orders.{is_same_file-refl, is_same_file-true}
-use Rattle.law_listings.specs.pg_entries.declared.entry.Entry.{Entry}
-use Rattle.law_listings.specs.pg_entries.Entry.{is_listed}
-use Rattle.law_listings.specs.pg_names.declared.attributes.Attributes.{Attributes}
-use Rattle.law_listings.specs.pg_names.Names.{NamesValue, cell_at, directories, is_dir, or_blank, own_at}
-use Rattle.law_listings.specs.pg_register.declared.place.Place.{Place}
-use Rattle.law_listings.specs.pg_register.Place.{first_stamp, root}
-use Rattle.law_listings.specs.pg_house.Facts.{IsHeld, is_among}
-use Rattle.law_listings.specs.pg_house.Holding.{held_back, is_back, is_dir_back}
-use Rattle.law_listings.specs.pg_house.Passing.{cell_for, greatest, is_held_back}
-use Rattle.law_listings.specs.pg_house.Returning.{is_dead, is_root}
-use Rattle.law_listings.proofs.pg_house.Counting.{among_kept}
-use Rattle.law_listings.proofs.pg_house.Ends.{key_of_held}
-use Rattle.law_listings.proofs.pg_house.Greatest.{cell_is}
-use Rattle.law_listings.specs.pg_store.declared.store.Store.{Store}
-use Rattle.law_listings.specs.pg_store.Seen.{server_of}
-use Rattle.law_listings.specs.pg_server.Owing.{held_at, owed}
-use Rattle.law_listings.specs.pg_run.Run.{World, is_live}
-use Rattle.law_listings.proofs.pg_run.QuietAnswers.{map_empty}
+use Rattle.pg_run.specs.pg_base.declared.id.FileId.{FileId}
+use Rattle.pg_run.specs.pg_base.Id.{is_same_file}
+use Rattle.pg_run.specs.pg_base.Stamp.{is_before}
+use Rattle.pg_run.proofs.pg_base.Orders.{is_same_file-refl, is_same_file-true}
+use Rattle.pg_run.specs.pg_entries.declared.entry.Entry.{Entry}
+use Rattle.pg_run.specs.pg_entries.Entry.{is_listed}
+use Rattle.pg_run.specs.pg_names.declared.attributes.Attributes.{Attributes}
+use Rattle.pg_run.specs.pg_names.Names.{NamesValue, cell_at, directories, is_dir, or_blank, own_at}
+use Rattle.pg_run.specs.pg_register.declared.place.Place.{Place}
+use Rattle.pg_run.specs.pg_register.Place.{first_stamp, root}
+use Rattle.pg_run.specs.pg_house.Facts.{IsHeld, is_among}
+use Rattle.pg_run.specs.pg_house.Holding.{held_back, is_back, is_dir_back}
+use Rattle.pg_run.specs.pg_house.Passing.{cell_for, greatest, is_held_back}
+use Rattle.pg_run.specs.pg_house.Returning.{is_dead, is_root}
+use Rattle.pg_run.proofs.pg_house.Counting.{among_kept}
+use Rattle.pg_run.proofs.pg_house.Ends.{key_of_held}
+use Rattle.pg_run.proofs.pg_house.Greatest.{cell_is}
+use Rattle.pg_run.specs.pg_store.declared.store.Store.{Store}
+use Rattle.pg_run.specs.pg_store.Seen.{server_of}
+use Rattle.pg_run.specs.pg_server.Owing.{held_at, owed}
+use Rattle.pg_run.specs.Run.{World, is_live}
+use Rattle.pg_run.proofs.QuietAnswers.{map_empty}
 use Rattle.law_quiet.proofs.Across.{nothing_back}
 use Rattle.law_quiet.proofs.Facts as facts
 use Rattle.law_quiet.proofs.Facts.{Facts, all_full}

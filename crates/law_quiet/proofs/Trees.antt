@@ -2,21 +2,21 @@
 -- what survives.
 use Rattle.std.proofs.Common.{ℕ, zero, suc, ◌≡◌, ◌+◌, not, Bool, true, false, length, Option, Some, refl, sym, ap, ◌∙◌}
 use Rattle.std.proofs.lemmas.Bool.{false≢true, and_from, not_from_false}
-use Rattle.law_listings.specs.pg_base.declared.id.FileId.{FileId}
-use Rattle.law_listings.specs.pg_base.Id.{is_same_file}
-use Rattle.law_listings.proofs.pg_base.Orders.{is_same_file-true}
-use Rattle.law_listings.specs.pg_names.declared.attributes.Attributes.{Attributes}
-use Rattle.law_listings.specs.pg_names.Names.{NamesValue, directories, is_dir, or_blank, own_at}
-use Rattle.law_listings.specs.pg_register.declared.place.Place.{Place}
-use Rattle.law_listings.specs.pg_register.Place.{root}
-use Rattle.law_listings.specs.pg_house.Cycles.{above, climb, is_inner, is_live_own}
-use Rattle.law_listings.specs.pg_house.Placing.{place_at, place_of}
-use Rattle.law_listings.specs.pg_house.Returning.{is_root}
-use Rattle.law_listings.proofs.pg_house.Counting.{among_kept}
-use Rattle.law_listings.proofs.pg_house.Ends.{key_of_held}
-use Rattle.law_listings.proofs.pg_house.Truths.{chosen_true}
-use Rattle.law_listings.specs.pg_run.Run.{World, is_live}
-use Rattle.law_listings.specs.pg_run.Laws.{IsBroughtBack, IsTree, LeadsToRoot, Stands, Survives}
+use Rattle.pg_run.specs.pg_base.declared.id.FileId.{FileId}
+use Rattle.pg_run.specs.pg_base.Id.{is_same_file}
+use Rattle.pg_run.proofs.pg_base.Orders.{is_same_file-true}
+use Rattle.pg_run.specs.pg_names.declared.attributes.Attributes.{Attributes}
+use Rattle.pg_run.specs.pg_names.Names.{NamesValue, directories, is_dir, or_blank, own_at}
+use Rattle.pg_run.specs.pg_register.declared.place.Place.{Place}
+use Rattle.pg_run.specs.pg_register.Place.{root}
+use Rattle.pg_run.specs.pg_house.Cycles.{above, climb, is_inner, is_live_own}
+use Rattle.pg_run.specs.pg_house.Placing.{place_at, place_of}
+use Rattle.pg_run.specs.pg_house.Returning.{is_root}
+use Rattle.pg_run.proofs.pg_house.Counting.{among_kept}
+use Rattle.pg_run.proofs.pg_house.Ends.{key_of_held}
+use Rattle.pg_run.proofs.pg_house.Truths.{chosen_true}
+use Rattle.pg_run.specs.Run.{World, is_live}
+use Rattle.pg_run.specs.Laws.{IsBroughtBack, IsTree, LeadsToRoot, Stands, Survives}
 use Rattle.law_quiet.proofs.Facts.{Facts, holds_of}
 use Rattle.law_quiet.proofs.Standing.{parent_dir, parent_held, parent_live}
 

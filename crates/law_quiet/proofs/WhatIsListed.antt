@@ -4,27 +4,27 @@ use Rattle.std.proofs.Common.{ℕ, ◌≡◌, ◌≢◌, Bool, true, false, List
 use Rattle.std.proofs.lemmas.Bool.{false≢true, and_parts}
 use Rattle.std.proofs.lemmas.Bool.Decides.{nat_tests}
 use Rattle.std.proofs.lemmas.Option.{none-some, same_Some}
-use Rattle.law_listings.specs.pg_base.declared.id.FileId.{FileId}
-use Rattle.law_listings.specs.pg_base.declared.stamp.Stamp.{Stamp}
-use Rattle.law_listings.specs.pg_base.Id.{is_same_file}
-use Rattle.law_listings.specs.pg_base.Stamp.{is_before}
-use Rattle.law_listings.proofs.pg_base.Orders.{is_same_file-refl, is_same_file-true}
-use Rattle.law_listings.specs.pg_entries.declared.entry.Entry.{Entry}
-use Rattle.law_listings.specs.pg_intent.declared.key.IntentKey.TheVariants as intent_key
-use Rattle.law_listings.specs.pg_intent.Intents.{intent_at}
+use Rattle.pg_run.specs.pg_base.declared.id.FileId.{FileId}
+use Rattle.pg_run.specs.pg_base.declared.stamp.Stamp.{Stamp}
+use Rattle.pg_run.specs.pg_base.Id.{is_same_file}
+use Rattle.pg_run.specs.pg_base.Stamp.{is_before}
+use Rattle.pg_run.proofs.pg_base.Orders.{is_same_file-refl, is_same_file-true}
+use Rattle.pg_run.specs.pg_entries.declared.entry.Entry.{Entry}
+use Rattle.pg_run.specs.pg_intent.declared.key.IntentKey.TheVariants as intent_key
+use Rattle.pg_run.specs.pg_intent.Intents.{intent_at}
 use Rattle.law_listings.specs.theory_listing.Laws as listing_laws
 use Rattle.law_listings.specs.theory_listing.Promises.{Kept}
 use Rattle.law_listings.specs.theory_listing.Protocol.{IsOrdered}
 use Rattle.law_listings.specs.theory_listing.Protocol as protocol
 use Rattle.law_listings.proofs.theory_listing.Quiet.{quiet_lists}
-use Rattle.law_listings.specs.pg_names.declared.attributes.Attributes.{Attributes}
-use Rattle.law_listings.specs.pg_names.Names.{cell_at, is_dir, or_blank, own_at}
-use Rattle.law_listings.specs.pg_register.declared.place.Place.{Place}
-use Rattle.law_listings.specs.pg_register.Place.{root}
-use Rattle.law_listings.proofs.pg_house.Truths.{before_itself}
+use Rattle.pg_run.specs.pg_names.declared.attributes.Attributes.{Attributes}
+use Rattle.pg_run.specs.pg_names.Names.{cell_at, is_dir, or_blank, own_at}
+use Rattle.pg_run.specs.pg_register.declared.place.Place.{Place}
+use Rattle.pg_run.specs.pg_register.Place.{root}
+use Rattle.pg_run.proofs.pg_house.Truths.{before_itself}
 use Rattle.law_listings.specs.theory_listing_house.Listing.{cell_place, own_place}
-use Rattle.law_listings.specs.pg_run.Laws.{IsListedOnly, Lists, Stands}
-use Rattle.law_listings.specs.pg_run.Run.{World, is_live}
+use Rattle.pg_run.specs.Laws.{IsListedOnly, Lists, Stands}
+use Rattle.pg_run.specs.Run.{World, is_live}
 use Rattle.law_listings.specs.Letters.{Letter, listings, of_stores, patch_place}
 use Rattle.law_quiet.proofs.Facts.{Facts, holds_of, no_intents, none_stands}
 use Rattle.law_quiet.proofs.Standing.{cell_of_own, parent_cell, parent_held}

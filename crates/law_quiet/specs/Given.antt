@@ -1,25 +1,25 @@
 -- What other laws say of every run, on which those of quiet runs rest.
 use Rattle.std.specs.Prelude.{ℕ, ◌≡◌, true, List, Some}
-use Rattle.law_listings.specs.pg_base.declared.id.FileId.{FileId}
-use Rattle.law_listings.specs.pg_entries.declared.entry.Entry.{Entry}
-use Rattle.law_listings.specs.pg_event.declared.event.Event.{Event}
-use Rattle.law_listings.specs.pg_names.declared.attributes.Attributes.{Attributes}
-use Rattle.law_listings.specs.pg_names.Names.{InodeValue, NamesValue, cell_at, directories, is_dir, known, own_at, own_or_blank}
-use Rattle.law_listings.specs.pg_base.Id.{is_same_file}
-use Rattle.law_listings.specs.pg_base.Stamp.{is_before}
-use Rattle.law_listings.specs.pg_register.Place.{first_stamp, root, root_place}
-use Rattle.law_listings.specs.pg_house.Cycles.{is_lost}
-use Rattle.law_listings.specs.pg_house.Facts.{is_among}
-use Rattle.law_listings.specs.pg_store.declared.store.Store.{Store}
-use Rattle.law_listings.specs.pg_store.Store.{is_full}
-use Rattle.law_listings.specs.theory_flood_pieces.Whole.{IsWhole}
+use Rattle.pg_run.specs.pg_base.declared.id.FileId.{FileId}
+use Rattle.pg_run.specs.pg_entries.declared.entry.Entry.{Entry}
+use Rattle.pg_run.specs.pg_event.declared.event.Event.{Event}
+use Rattle.pg_run.specs.pg_names.declared.attributes.Attributes.{Attributes}
+use Rattle.pg_run.specs.pg_names.Names.{InodeValue, NamesValue, cell_at, directories, is_dir, known, own_at, own_or_blank}
+use Rattle.pg_run.specs.pg_base.Id.{is_same_file}
+use Rattle.pg_run.specs.pg_base.Stamp.{is_before}
+use Rattle.pg_run.specs.pg_register.Place.{first_stamp, root, root_place}
+use Rattle.pg_run.specs.pg_house.Cycles.{is_lost}
+use Rattle.pg_run.specs.pg_house.Facts.{is_among}
+use Rattle.pg_run.specs.pg_store.declared.store.Store.{Store}
+use Rattle.pg_run.specs.pg_store.Store.{is_full}
+use Rattle.pg_run.specs.theory_flood_pieces.Whole.{IsWhole}
 use Rattle.std.specs.Prelude.{false, length}
-use Rattle.law_listings.specs.pg_run.Acknowledged.{AcknowledgedKeysAreHad}
-use Rattle.law_listings.specs.pg_run.Histories.{MakesHistories, StateIsItsHeads}
-use Rattle.law_listings.specs.pg_run.Intending.{IntentionsAreInOrder}
-use Rattle.law_listings.specs.pg_run.Known.{CarriedIsKnown, FlagsHaveOwnNumbers, PlacesHaveOwnStamps}
-use Rattle.law_listings.specs.pg_run.Laws.{AtEach, HoldsWhatItTook, HouseIsInOrder, ShowsDistinctNames, names_after, store_after}
-use Rattle.law_listings.specs.pg_run.Views.{ViewsArePrefixes}
+use Rattle.pg_run.specs.Acknowledged.{AcknowledgedKeysAreHad}
+use Rattle.pg_run.specs.Histories.{MakesHistories, StateIsItsHeads}
+use Rattle.pg_run.specs.Intending.{IntentionsAreInOrder}
+use Rattle.pg_run.specs.Known.{CarriedIsKnown, FlagsHaveOwnNumbers, PlacesHaveOwnStamps}
+use Rattle.pg_run.specs.Laws.{AtEach, HoldsWhatItTook, HouseIsInOrder, ShowsDistinctNames, names_after, store_after}
+use Rattle.pg_run.specs.Views.{ViewsArePrefixes}
 use Rattle.law_listings.specs.Laws.{ListingsAreKept}
 
 -- each server of a run is whole

@@ -1,11 +1,11 @@
 -- What holds wherever a run is quiet: statements.
 use Rattle.std.specs.Prelude.{ℕ, ◌≡◌}
-use Rattle.law_listings.specs.pg_base.declared.id.FileId.{FileId}
-use Rattle.law_listings.specs.pg_names.Names.{cell_at, own_or_blank}
-use Rattle.law_listings.specs.pg_store.declared.store.Store.{Store}
-use Rattle.law_listings.specs.pg_store.Store.{content_of}
-use Rattle.law_listings.specs.pg_run.Graphs.{AreJoined}
-use Rattle.law_listings.specs.pg_run.Laws.{AtLive, WhereQuiet}
+use Rattle.pg_run.specs.pg_base.declared.id.FileId.{FileId}
+use Rattle.pg_run.specs.pg_names.Names.{cell_at, own_or_blank}
+use Rattle.pg_run.specs.pg_store.declared.store.Store.{Store}
+use Rattle.pg_run.specs.pg_store.Store.{content_of}
+use Rattle.pg_run.specs.Graphs.{AreJoined}
+use Rattle.pg_run.specs.Laws.{AtLive, WhereQuiet}
 
 -- two servers hold the same of a thing: place and flags, entries and content
 pub record HoldTheSame (a b : Store) (file : FileId) : Type 0 where

@@ -1,7 +1,7 @@
 //! What holds of all runs. Each law is a clause of a function that does nothing.
 
 ghost use Rattle.std.specs.Prelude.{ℕ};
-ghost use Rattle.law_listings.specs.pg_run.Laws.{NamesMerge, QuietDirectoriesAreBroughtBack, QuietJoinedServersAgree, QuietNamesFormATree, QuietServersAgree, QuietThingsAreListedOnlyWhereTheyStand};
+ghost use Rattle.pg_run.specs.Laws.{NamesMerge, QuietDirectoriesAreBroughtBack, QuietJoinedServersAgree, QuietNamesFormATree, QuietServersAgree, QuietThingsAreListedOnlyWhereTheyStand};
 ghost use Rattle.law_quiet.specs.Given.{AgreementIsGiven, TreeIsGiven};
 ghost use Rattle.law_quiet.specs.Laws.{QuietStoresAgree};
 

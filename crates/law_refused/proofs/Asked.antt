@@ -7,25 +7,25 @@ use Rattle.std.specs.Option.{option_map, option_or, unwrap_or}
 use Rattle.std.specs.Prelude.{Contains}
 use Rattle.std.proofs.lemmas.Bool.{false≢true}
 use Rattle.std.proofs.lemmas.Option.{none-some, same_Some}
-use Rattle.law_ticks.specs.pg_run.pg_base.declared.id.FileId.{FileId}
-use Rattle.law_ticks.specs.pg_run.pg_base.Id.{file_cmp}
-use Rattle.law_ticks.proofs.pg_run.pg_base.Orders.{is_same_file-refl, is_same_file-true}
-use Rattle.law_ticks.specs.pg_run.pg_entries.declared.entry.Entry.{Entry}
-use Rattle.law_ticks.specs.pg_run.pg_intent.declared.intent.Intent.{Intent}
-use Rattle.law_ticks.specs.pg_run.pg_intent.declared.intent.Intent.TheVariants as intent
-use Rattle.law_ticks.specs.pg_run.pg_intent.declared.key.IntentKey.TheVariants as key
-use Rattle.law_ticks.specs.pg_run.pg_intent.Intents.{has_key}
-use Rattle.law_ticks.specs.pg_run.pg_lookup.declared.paths.Way.{Way}
-use Rattle.law_ticks.specs.pg_run.pg_names.Names.{cell_at}
-use Rattle.law_ticks.specs.pg_run.pg_register.declared.flag.Flag.{Flag}
-use Rattle.law_ticks.specs.pg_run.pg_register.Flag.{IsByServer, is_live_other}
-use Rattle.law_ticks.specs.pg_run.pg_store.declared.store.Store.{Store}
-use Rattle.law_ticks.specs.pg_run.pg_store.declared.wishes.Wish.{Wish}
-use Rattle.law_ticks.specs.pg_run.pg_store.Seen.{removed_of, server_of}
-use Rattle.law_ticks.specs.pg_run.pg_store.Births.{fill_at, wish_at}
-use Rattle.law_ticks.specs.pg_run.pg_store.Servers.{next_target}
-use Rattle.law_ticks.specs.pg_run.pg_checks.Asking.{cell_in, dir_by, gold_of, holder, standing, wish_by}
-use Rattle.law_ticks.proofs.pg_run.Lists.{among_contained, contained_among}
+use Rattle.pg_run.specs.pg_base.declared.id.FileId.{FileId}
+use Rattle.pg_run.specs.pg_base.Id.{file_cmp}
+use Rattle.pg_run.proofs.pg_base.Orders.{is_same_file-refl, is_same_file-true}
+use Rattle.pg_run.specs.pg_entries.declared.entry.Entry.{Entry}
+use Rattle.pg_run.specs.pg_intent.declared.intent.Intent.{Intent}
+use Rattle.pg_run.specs.pg_intent.declared.intent.Intent.TheVariants as intent
+use Rattle.pg_run.specs.pg_intent.declared.key.IntentKey.TheVariants as key
+use Rattle.pg_run.specs.pg_intent.Intents.{has_key}
+use Rattle.pg_run.specs.pg_lookup.declared.paths.Way.{Way}
+use Rattle.pg_run.specs.pg_names.Names.{cell_at}
+use Rattle.pg_run.specs.pg_register.declared.flag.Flag.{Flag}
+use Rattle.pg_run.specs.pg_register.Flag.{IsByServer, is_live_other}
+use Rattle.pg_run.specs.pg_store.declared.store.Store.{Store}
+use Rattle.pg_run.specs.pg_store.declared.wishes.Wish.{Wish}
+use Rattle.pg_run.specs.pg_store.Seen.{removed_of, server_of}
+use Rattle.pg_run.specs.pg_store.Births.{fill_at, wish_at}
+use Rattle.pg_run.specs.pg_store.Servers.{next_target}
+use Rattle.pg_run.specs.pg_checks.Asking.{cell_in, dir_by, gold_of, holder, standing, wish_by}
+use Rattle.pg_run.proofs.Lists.{among_contained, contained_among}
 use Rattle.law_turns.specs.Targets.{IsLeastOrNext}
 use Rattle.law_turns.proofs.Targets.{Passes, first_is, gold_passes, next_behind}
 use Rattle.law_turns.proofs.Targets as targets

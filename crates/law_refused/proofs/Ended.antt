@@ -3,32 +3,32 @@ use Rattle.std.proofs.Common.{[], ℕ, ◌≡◌, ◌≢◌, ◌==◌, ◌⊎◌
 use Rattle.std.proofs.lemmas.Bool.{false≢true}
 use Rattle.std.proofs.lemmas.Bool.Decides.{Decides-eqb}
 use Rattle.std.proofs.lemmas.List.{append-nil}
-use Rattle.law_ticks.specs.pg_run.pg_base.declared.id.FileId.{FileId}
-use Rattle.law_ticks.specs.pg_run.pg_call.declared.refusal.Refusal.{Refusal}
-use Rattle.law_ticks.specs.pg_run.pg_call.declared.refusal.Refusal.TheVariants.{NotYet}
-use Rattle.law_ticks.specs.pg_run.pg_call.declared.reply.Reply.{Reply}
-use Rattle.law_ticks.specs.pg_run.pg_house.Facts.{AreOrdered}
-use Rattle.law_ticks.specs.pg_run.pg_lookup.declared.paths.Found.{Found}
-use Rattle.law_ticks.specs.pg_run.pg_msg.declared.message.Message.TheVariants.{Fetch}
-use Rattle.law_ticks.specs.pg_run.pg_msg.declared.message.Sent.{Sent}
-use Rattle.law_ticks.specs.pg_run.pg_msg.declared.work.Work.{Work}
-use Rattle.law_ticks.specs.pg_run.pg_msg.Work.{new_work}
-use Rattle.law_ticks.specs.pg_run.pg_store.declared.store.Store.{Store}
-use Rattle.law_ticks.specs.pg_run.pg_store.declared.wishes.Wish.{Wish}
-use Rattle.law_ticks.specs.pg_run.pg_store.Births.{draw_birth, with_birth, with_wish}
-use Rattle.law_ticks.specs.pg_run.pg_store.Store.{is_full}
-use Rattle.law_ticks.specs.pg_run.pg_pieces.Done.{Done, idle}
-use Rattle.law_ticks.specs.pg_run.pg_pieces.Posting.{post, sent_to}
-use Rattle.law_ticks.specs.pg_run.pg_checks.Answer.{Answer}
-use Rattle.law_ticks.specs.pg_run.pg_checks.Asking.{ask_by, ask_for, fresh_wish, holder, standing}
-use Rattle.law_ticks.specs.pg_run.pg_intentions.Beginning.{begin_end}
-use Rattle.law_ticks.specs.pg_run.pg_server.Local.{Effect, closed, done_of, finished}
-use Rattle.law_ticks.specs.pg_run.Golds.{FullSeeGold}
-use Rattle.law_ticks.specs.pg_run.Laws.{IsInOrder}
-use Rattle.law_ticks.proofs.pg_run.pg_checks.Stopping.{is_not_yet}
-use Rattle.law_ticks.proofs.pg_run.pg_intentions.Idle.{ConfirmsFit, FillsFit, SeeksFit, confirms_fit, fills_fit, leaves_pass, nothing_to_do, seeks_fit}
-use Rattle.law_ticks.proofs.pg_run.pg_intentions.Leaves.{AllPass, all_moved}
-use Rattle.law_ticks.proofs.pg_run.Ticks.{IsTidy, StaysIntended, closed_is, nothing_more}
+use Rattle.pg_run.specs.pg_base.declared.id.FileId.{FileId}
+use Rattle.pg_run.specs.pg_call.declared.refusal.Refusal.{Refusal}
+use Rattle.pg_run.specs.pg_call.declared.refusal.Refusal.TheVariants.{NotYet}
+use Rattle.pg_run.specs.pg_call.declared.reply.Reply.{Reply}
+use Rattle.pg_run.specs.pg_house.Facts.{AreOrdered}
+use Rattle.pg_run.specs.pg_lookup.declared.paths.Found.{Found}
+use Rattle.pg_run.specs.pg_msg.declared.message.Message.TheVariants.{Fetch}
+use Rattle.pg_run.specs.pg_msg.declared.message.Sent.{Sent}
+use Rattle.pg_run.specs.pg_msg.declared.work.Work.{Work}
+use Rattle.pg_run.specs.pg_msg.Work.{new_work}
+use Rattle.pg_run.specs.pg_store.declared.store.Store.{Store}
+use Rattle.pg_run.specs.pg_store.declared.wishes.Wish.{Wish}
+use Rattle.pg_run.specs.pg_store.Births.{draw_birth, with_birth, with_wish}
+use Rattle.pg_run.specs.pg_store.Store.{is_full}
+use Rattle.pg_run.specs.pg_pieces.Done.{Done, idle}
+use Rattle.pg_run.specs.pg_pieces.Posting.{post, sent_to}
+use Rattle.pg_run.specs.pg_checks.Answer.{Answer}
+use Rattle.pg_run.specs.pg_checks.Asking.{ask_by, ask_for, fresh_wish, holder, standing}
+use Rattle.pg_run.specs.pg_intentions.Beginning.{begin_end}
+use Rattle.pg_run.specs.pg_server.Local.{Effect, closed, done_of, finished}
+use Rattle.pg_run.specs.Golds.{FullSeeGold}
+use Rattle.pg_run.specs.Laws.{IsInOrder}
+use Rattle.pg_run.proofs.pg_checks.Stopping.{is_not_yet}
+use Rattle.pg_run.proofs.pg_intentions.Idle.{ConfirmsFit, FillsFit, SeeksFit, confirms_fit, fills_fit, leaves_pass, nothing_to_do, seeks_fit}
+use Rattle.pg_run.proofs.pg_intentions.Leaves.{AllPass, all_moved}
+use Rattle.pg_run.proofs.Ticks.{IsTidy, StaysIntended, closed_is, nothing_more}
 use Rattle.law_turns.proofs.Told.{ByServer}
 use Rattle.law_refused.specs.Refusals.{AsksAgain, AsksFirst, AsksFor}
 use Rattle.law_refused.proofs.Asked.{first_asked, nothing_stands, wish_stands}

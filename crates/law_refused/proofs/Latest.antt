@@ -8,19 +8,19 @@ use Rattle.std.specs.Ordering.{ordering_reverse}
 use Rattle.std.specs.declared.cmp.Ordering.{Ordering}
 use Rattle.std.proofs.lemmas.Bool.{false≢true}
 use Rattle.std.proofs.lemmas.Option.{none-some, same_Some}
-use Rattle.law_ticks.specs.pg_run.pg_base.declared.id.FileId.{FileId}
-use Rattle.law_ticks.specs.pg_run.pg_base.declared.stamp.Stamp.{Stamp}
-use Rattle.law_ticks.specs.pg_run.pg_base.Id.{file_cmp}
-use Rattle.law_ticks.specs.pg_run.pg_base.Stamp.{is_before}
-use Rattle.law_ticks.proofs.pg_run.pg_base.Orders.{file_exact, file_total, is_same_file-true}
-use Rattle.law_ticks.specs.pg_run.pg_content.Content.{Among}
-use Rattle.law_ticks.specs.pg_run.pg_entries.declared.entry.Entry.{Entry}
-use Rattle.law_ticks.specs.pg_run.pg_names.Names.{InodeValue, NamesValue, cell_at, entry_in, known}
-use Rattle.law_ticks.specs.pg_run.pg_lookup.declared.paths.Way.{Way}
-use Rattle.law_ticks.specs.pg_run.pg_lookup.declared.paths.Way.TheVariants as ways
-use Rattle.law_ticks.specs.pg_run.pg_register.Flag.{IsByServer}
-use Rattle.law_ticks.specs.pg_run.pg_store.declared.store.Store.{Store}
-use Rattle.law_ticks.specs.pg_run.pg_checks.Asking.{cell_in, dir_by, is_later, later, latest}
+use Rattle.pg_run.specs.pg_base.declared.id.FileId.{FileId}
+use Rattle.pg_run.specs.pg_base.declared.stamp.Stamp.{Stamp}
+use Rattle.pg_run.specs.pg_base.Id.{file_cmp}
+use Rattle.pg_run.specs.pg_base.Stamp.{is_before}
+use Rattle.pg_run.proofs.pg_base.Orders.{file_exact, file_total, is_same_file-true}
+use Rattle.pg_run.specs.pg_content.Content.{Among}
+use Rattle.pg_run.specs.pg_entries.declared.entry.Entry.{Entry}
+use Rattle.pg_run.specs.pg_names.Names.{InodeValue, NamesValue, cell_at, entry_in, known}
+use Rattle.pg_run.specs.pg_lookup.declared.paths.Way.{Way}
+use Rattle.pg_run.specs.pg_lookup.declared.paths.Way.TheVariants as ways
+use Rattle.pg_run.specs.pg_register.Flag.{IsByServer}
+use Rattle.pg_run.specs.pg_store.declared.store.Store.{Store}
+use Rattle.pg_run.specs.pg_checks.Asking.{cell_in, dir_by, is_later, later, latest}
 use Rattle.law_refused.specs.Asked.{CameBy, IsLatestCell}
 use Rattle.law_refused.proofs.Orders.{before_of, before_test, before_then, itself, less_of, lesser_of, not_behind, not_itself, not_twice}
 

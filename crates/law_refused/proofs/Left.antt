@@ -2,41 +2,41 @@
 -- for.
 use Rattle.std.proofs.Common.{ℕ, ◌≡◌, ◌∙◌, ◌⊎◌, Bool, true, false, inl, inr, List, Option, None, Some, Result, Ok, Err, refl, sym, ap}
 use Rattle.std.proofs.lemmas.Bool.{false≢true}
-use Rattle.law_ticks.specs.pg_run.pg_base.declared.id.FileId.{FileId}
-use Rattle.law_ticks.specs.pg_run.pg_base.declared.id.Kind.TheVariants.{Dir, File}
-use Rattle.law_ticks.specs.pg_run.pg_base.declared.stamp.Stamp.{Stamp}
-use Rattle.law_ticks.specs.pg_run.pg_announced.Announced.{first_of}
-use Rattle.law_ticks.specs.pg_run.pg_patch.Ranges.{RangesValue, cut_to, written}
-use Rattle.law_ticks.specs.pg_run.pg_register.declared.flag.Flag.{Flag}
-use Rattle.law_ticks.specs.pg_run.pg_replica.Replica.{has_many_actors, is_too_long}
-use Rattle.law_ticks.specs.pg_run.pg_msg.declared.work.Work.{Work}
-use Rattle.law_ticks.specs.pg_run.pg_call.declared.call.Call.{Call}
-use Rattle.law_ticks.specs.pg_run.pg_call.declared.call.Call.TheVariants as call
-use Rattle.law_ticks.specs.pg_run.pg_call.declared.refusal.Refusal.{Refusal}
-use Rattle.law_ticks.specs.pg_run.pg_call.declared.refusal.Refusal.TheVariants.{Behind, ManyActors, NotYet, TooLong}
-use Rattle.law_ticks.specs.pg_run.pg_call.declared.reply.Reply.{Reply}
-use Rattle.law_ticks.specs.pg_run.pg_call.declared.reply.Reply.TheVariants as reply
-use Rattle.law_ticks.specs.pg_run.pg_lookup.declared.paths.Found.{Found}
-use Rattle.law_ticks.specs.pg_run.pg_lookup.declared.paths.LookupError.{LookupError}
-use Rattle.law_ticks.specs.pg_run.pg_lookup.declared.paths.LookupError.TheVariants as stop
-use Rattle.law_ticks.specs.pg_run.pg_store.declared.store.Store.{Store}
-use Rattle.law_ticks.specs.pg_run.pg_store.Seen.{server_of}
-use Rattle.law_ticks.specs.pg_run.pg_store.Store.{replica_of}
-use Rattle.law_ticks.specs.pg_run.pg_pieces.Done.{idle}
-use Rattle.law_ticks.specs.pg_run.pg_checks.Answer.{Answer, answered, deny, replied, told, unless}
-use Rattle.law_ticks.specs.pg_run.pg_checks.Asking.{ask_for}
-use Rattle.law_ticks.specs.pg_run.pg_checks.Checks.{dir_at, empty_dir_at, file_at, in_time, move_of, new_name, target_at}
-use Rattle.law_ticks.specs.pg_run.pg_calls.Bodies.{change, change_file, when_fit}
-use Rattle.law_ticks.specs.pg_run.pg_calls.Calls.{do_call}
-use Rattle.law_ticks.specs.pg_run.pg_calls.Demoting.{demoted_at}
-use Rattle.law_ticks.specs.pg_run.pg_calls.Dropping.{clean_gold, dropped_at, leaving}
-use Rattle.law_ticks.specs.pg_run.pg_calls.Forgetting.{lost_at}
-use Rattle.law_ticks.specs.pg_run.pg_calls.GivingUp.{removal_at}
-use Rattle.law_ticks.specs.pg_run.pg_calls.Looks.{freshness}
-use Rattle.law_ticks.specs.pg_run.pg_calls.Naming.{next_id}
-use Rattle.law_ticks.specs.pg_run.pg_server.Local.{done_of}
-use Rattle.law_ticks.proofs.pg_run.pg_calls.Missing.{IsMissing, demoted_missing, dir_missing, dropped_missing, empty_missing, file_missing, lost_missing, move_missing, name_missing, removal_missing, target_missing}
-use Rattle.law_ticks.proofs.pg_run.pg_checks.Stopping.{StopsAt, is_not_yet, stops_then, stops_time, stops_unless}
+use Rattle.pg_run.specs.pg_base.declared.id.FileId.{FileId}
+use Rattle.pg_run.specs.pg_base.declared.id.Kind.TheVariants.{Dir, File}
+use Rattle.pg_run.specs.pg_base.declared.stamp.Stamp.{Stamp}
+use Rattle.pg_run.specs.pg_announced.Announced.{first_of}
+use Rattle.pg_run.specs.pg_patch.Ranges.{RangesValue, cut_to, written}
+use Rattle.pg_run.specs.pg_register.declared.flag.Flag.{Flag}
+use Rattle.pg_run.specs.pg_replica.Replica.{has_many_actors, is_too_long}
+use Rattle.pg_run.specs.pg_msg.declared.work.Work.{Work}
+use Rattle.pg_run.specs.pg_call.declared.call.Call.{Call}
+use Rattle.pg_run.specs.pg_call.declared.call.Call.TheVariants as call
+use Rattle.pg_run.specs.pg_call.declared.refusal.Refusal.{Refusal}
+use Rattle.pg_run.specs.pg_call.declared.refusal.Refusal.TheVariants.{Behind, ManyActors, NotYet, TooLong}
+use Rattle.pg_run.specs.pg_call.declared.reply.Reply.{Reply}
+use Rattle.pg_run.specs.pg_call.declared.reply.Reply.TheVariants as reply
+use Rattle.pg_run.specs.pg_lookup.declared.paths.Found.{Found}
+use Rattle.pg_run.specs.pg_lookup.declared.paths.LookupError.{LookupError}
+use Rattle.pg_run.specs.pg_lookup.declared.paths.LookupError.TheVariants as stop
+use Rattle.pg_run.specs.pg_store.declared.store.Store.{Store}
+use Rattle.pg_run.specs.pg_store.Seen.{server_of}
+use Rattle.pg_run.specs.pg_store.Store.{replica_of}
+use Rattle.pg_run.specs.pg_pieces.Done.{idle}
+use Rattle.pg_run.specs.pg_checks.Answer.{Answer, answered, deny, replied, told, unless}
+use Rattle.pg_run.specs.pg_checks.Asking.{ask_for}
+use Rattle.pg_run.specs.pg_checks.Checks.{dir_at, empty_dir_at, file_at, in_time, move_of, new_name, target_at}
+use Rattle.pg_run.specs.pg_calls.Bodies.{change, change_file, when_fit}
+use Rattle.pg_run.specs.pg_calls.Calls.{do_call}
+use Rattle.pg_run.specs.pg_calls.Demoting.{demoted_at}
+use Rattle.pg_run.specs.pg_calls.Dropping.{clean_gold, dropped_at, leaving}
+use Rattle.pg_run.specs.pg_calls.Forgetting.{lost_at}
+use Rattle.pg_run.specs.pg_calls.GivingUp.{removal_at}
+use Rattle.pg_run.specs.pg_calls.Looks.{freshness}
+use Rattle.pg_run.specs.pg_calls.Naming.{next_id}
+use Rattle.pg_run.specs.pg_server.Local.{done_of}
+use Rattle.pg_run.proofs.pg_calls.Missing.{IsMissing, demoted_missing, dir_missing, dropped_missing, empty_missing, file_missing, lost_missing, move_missing, name_missing, removal_missing, target_missing}
+use Rattle.pg_run.proofs.pg_checks.Stopping.{StopsAt, is_not_yet, stops_then, stops_time, stops_unless}
 
 -- all is as it was
 pub record LeavesAll (store : Store) (work : Work) (why : Refusal) (left : Answer) : Type 0 where

@@ -7,11 +7,11 @@ use Rattle.std.specs.declared.cmp.Ordering.{Ordering}
 use Rattle.std.proofs.lemmas.Bool.{eq-eqb, eqb-true, lt-ltb, ltb-true}
 use Rattle.std.proofs.lemmas.Bool.Decides.{nat_tests}
 use Rattle.std.proofs.lemmas.Cmp.{tied_itself}
-use Rattle.law_ticks.specs.pg_run.pg_base.declared.id.FileId.{FileId}
-use Rattle.law_ticks.specs.pg_run.pg_base.declared.stamp.Stamp.{Stamp}
-use Rattle.law_ticks.specs.pg_run.pg_base.Id.{IsBefore as IsLesser, file_cmp, rank}
-use Rattle.law_ticks.specs.pg_run.pg_base.Stamp.{IsBefore, is_before}
-use Rattle.law_ticks.proofs.pg_run.pg_base.Orders.{file_total}
+use Rattle.pg_run.specs.pg_base.declared.id.FileId.{FileId}
+use Rattle.pg_run.specs.pg_base.declared.stamp.Stamp.{Stamp}
+use Rattle.pg_run.specs.pg_base.Id.{IsBefore as IsLesser, file_cmp, rank}
+use Rattle.pg_run.specs.pg_base.Stamp.{IsBefore, is_before}
+use Rattle.pg_run.proofs.pg_base.Orders.{file_total}
 
 -- ---- stamps
 

@@ -1,26 +1,26 @@
 -- A refused call in a run: what the end of its event leaves, and a void event is told to no client.
 use Rattle.std.proofs.Common.{ℕ, ◌≡◌, Bool, true, false, cond, Some, refl, sym, subst, ◌∙◌}
 use Rattle.std.proofs.lemmas.Option.{none-some, same_Some}
-use Rattle.law_ticks.specs.pg_run.pg_call.declared.call.Call.{Call}
-use Rattle.law_ticks.specs.pg_run.pg_call.declared.refusal.Refusal.{Refusal}
-use Rattle.law_ticks.specs.pg_run.pg_call.declared.reply.Reply.{Reply}
-use Rattle.law_ticks.specs.pg_run.pg_call.declared.reply.Reply.TheVariants.{Refused}
-use Rattle.law_ticks.specs.pg_run.pg_event.declared.event.Event.{Event}
-use Rattle.law_ticks.specs.pg_run.pg_event.declared.event.Event.TheVariants.{Call as Called}
-use Rattle.law_ticks.specs.pg_run.pg_msg.Work.{new_work}
-use Rattle.law_ticks.specs.pg_run.pg_pieces.Done.{Done}
-use Rattle.law_ticks.specs.pg_run.pg_store.declared.store.Store.{Store}
-use Rattle.law_ticks.specs.pg_run.pg_store.Store.{is_before_clock_end}
-use Rattle.law_ticks.specs.pg_run.pg_checks.Answer.{Answer}
-use Rattle.law_ticks.specs.pg_run.pg_calls.Calls.{do_call}
-use Rattle.law_ticks.specs.pg_run.pg_server.declared.input.Input.{Input}
-use Rattle.law_ticks.specs.pg_run.pg_server.declared.input.Input.TheVariants as input
-use Rattle.law_ticks.specs.pg_run.pg_server.Local.{Effect, done_of, effect}
-use Rattle.law_ticks.specs.pg_run.Run.{Step, World, effect_step, given_step, idle_step, is_due, is_live, run, why_void}
-use Rattle.law_ticks.specs.pg_run.Journal.{removals}
-use Rattle.law_ticks.proofs.pg_run.theory_flood.Flood.{after_itself}
-use Rattle.law_ticks.proofs.pg_run.Frame.{IsLive, live_is, other_after}
-use Rattle.law_ticks.proofs.pg_run.Ticks.{IsTidy}
+use Rattle.pg_run.specs.pg_call.declared.call.Call.{Call}
+use Rattle.pg_run.specs.pg_call.declared.refusal.Refusal.{Refusal}
+use Rattle.pg_run.specs.pg_call.declared.reply.Reply.{Reply}
+use Rattle.pg_run.specs.pg_call.declared.reply.Reply.TheVariants.{Refused}
+use Rattle.pg_run.specs.pg_event.declared.event.Event.{Event}
+use Rattle.pg_run.specs.pg_event.declared.event.Event.TheVariants.{Call as Called}
+use Rattle.pg_run.specs.pg_msg.Work.{new_work}
+use Rattle.pg_run.specs.pg_pieces.Done.{Done}
+use Rattle.pg_run.specs.pg_store.declared.store.Store.{Store}
+use Rattle.pg_run.specs.pg_store.Store.{is_before_clock_end}
+use Rattle.pg_run.specs.pg_checks.Answer.{Answer}
+use Rattle.pg_run.specs.pg_calls.Calls.{do_call}
+use Rattle.pg_run.specs.pg_server.declared.input.Input.{Input}
+use Rattle.pg_run.specs.pg_server.declared.input.Input.TheVariants as input
+use Rattle.pg_run.specs.pg_server.Local.{Effect, done_of, effect}
+use Rattle.pg_run.specs.Run.{Step, World, effect_step, given_step, idle_step, is_due, is_live, run, why_void}
+use Rattle.pg_run.specs.Journal.{removals}
+use Rattle.pg_run.proofs.theory_flood.Flood.{after_itself}
+use Rattle.pg_run.proofs.Frame.{IsLive, live_is, other_after}
+use Rattle.pg_run.proofs.Ticks.{IsTidy}
 use Rattle.law_ticks.specs.Given.{TidinessIsGiven}
 use Rattle.law_ticks.proofs.Ticks.{tidy}
 use Rattle.law_turns.proofs.Told.{ByServer, flags_by_server}

@@ -1,18 +1,18 @@
 -- What stands of what was asked, and who is asked first, in their own words: members of what is
 -- held, and no other that is later or less.
 use Rattle.std.specs.Prelude.{ℕ, ◌≡◌, ◌⊎◌, ◌++◌, List, ◌∷◌, Contains, Some}
-use Rattle.law_ticks.specs.pg_run.pg_base.declared.id.FileId.{FileId}
-use Rattle.law_ticks.specs.pg_run.pg_base.Id.{IsBefore as IsLesser}
-use Rattle.law_ticks.specs.pg_run.pg_base.Stamp.{IsBefore}
-use Rattle.law_ticks.specs.pg_run.pg_entries.declared.entry.Entry.{Entry}
-use Rattle.law_ticks.specs.pg_run.pg_intent.declared.intent.Intent.{Intent}
-use Rattle.law_ticks.specs.pg_run.pg_intent.declared.intent.Intent.TheVariants as intent
-use Rattle.law_ticks.specs.pg_run.pg_lookup.declared.paths.Way.{Way}
-use Rattle.law_ticks.specs.pg_run.pg_lookup.declared.paths.Way.TheVariants as ways
-use Rattle.law_ticks.specs.pg_run.pg_names.Names.{cell_at}
-use Rattle.law_ticks.specs.pg_run.pg_register.declared.flag.Flag.{Flag}
-use Rattle.law_ticks.specs.pg_run.pg_store.declared.store.Store.{Store}
-use Rattle.law_ticks.specs.pg_run.pg_store.declared.wishes.Wish.{Wish}
+use Rattle.pg_run.specs.pg_base.declared.id.FileId.{FileId}
+use Rattle.pg_run.specs.pg_base.Id.{IsBefore as IsLesser}
+use Rattle.pg_run.specs.pg_base.Stamp.{IsBefore}
+use Rattle.pg_run.specs.pg_entries.declared.entry.Entry.{Entry}
+use Rattle.pg_run.specs.pg_intent.declared.intent.Intent.{Intent}
+use Rattle.pg_run.specs.pg_intent.declared.intent.Intent.TheVariants as intent
+use Rattle.pg_run.specs.pg_lookup.declared.paths.Way.{Way}
+use Rattle.pg_run.specs.pg_lookup.declared.paths.Way.TheVariants as ways
+use Rattle.pg_run.specs.pg_names.Names.{cell_at}
+use Rattle.pg_run.specs.pg_register.declared.flag.Flag.{Flag}
+use Rattle.pg_run.specs.pg_store.declared.store.Store.{Store}
+use Rattle.pg_run.specs.pg_store.declared.wishes.Wish.{Wish}
 use Rattle.law_turns.specs.Targets.{IsLeastOrNext, IsOtherGold}
 
 -- ---- members of a list

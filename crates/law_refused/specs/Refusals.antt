@@ -1,21 +1,21 @@
 -- What a call that is refused leaves, in any run.
 use Rattle.std.specs.Prelude.{ℕ, ◌≡◌, ◌≢◌, ◌⊎◌, [], ◌∷◌, false, List, None, Some}
-use Rattle.law_ticks.specs.pg_run.pg_base.declared.id.FileId.{FileId}
-use Rattle.law_ticks.specs.pg_run.pg_call.declared.call.Call.{Call}
-use Rattle.law_ticks.specs.pg_run.pg_call.declared.refusal.Refusal.{Refusal}
-use Rattle.law_ticks.specs.pg_run.pg_call.declared.refusal.Refusal.TheVariants.{NotYet}
-use Rattle.law_ticks.specs.pg_run.pg_call.declared.reply.Reply.TheVariants.{Refused}
-use Rattle.law_ticks.specs.pg_run.pg_event.declared.event.Event.{Event}
-use Rattle.law_ticks.specs.pg_run.pg_event.declared.event.Event.TheVariants.{Call as Called}
-use Rattle.law_ticks.specs.pg_run.pg_lookup.declared.paths.Way.{Way}
-use Rattle.law_ticks.specs.pg_run.pg_msg.declared.message.Message.TheVariants.{Fetch}
-use Rattle.law_ticks.specs.pg_run.pg_msg.declared.message.Sent.{Sent}
-use Rattle.law_ticks.specs.pg_run.pg_store.declared.store.Store.{Store}
-use Rattle.law_ticks.specs.pg_run.pg_store.declared.wishes.Wish.{Wish}
-use Rattle.law_ticks.specs.pg_run.pg_store.Births.{draw_birth, with_birth, with_wish}
-use Rattle.law_ticks.specs.pg_run.pg_store.Store.{is_full}
-use Rattle.law_ticks.specs.pg_run.pg_pieces.Posting.{sent_to}
-use Rattle.law_ticks.specs.pg_run.Run.{Step, World, next, run}
+use Rattle.pg_run.specs.pg_base.declared.id.FileId.{FileId}
+use Rattle.pg_run.specs.pg_call.declared.call.Call.{Call}
+use Rattle.pg_run.specs.pg_call.declared.refusal.Refusal.{Refusal}
+use Rattle.pg_run.specs.pg_call.declared.refusal.Refusal.TheVariants.{NotYet}
+use Rattle.pg_run.specs.pg_call.declared.reply.Reply.TheVariants.{Refused}
+use Rattle.pg_run.specs.pg_event.declared.event.Event.{Event}
+use Rattle.pg_run.specs.pg_event.declared.event.Event.TheVariants.{Call as Called}
+use Rattle.pg_run.specs.pg_lookup.declared.paths.Way.{Way}
+use Rattle.pg_run.specs.pg_msg.declared.message.Message.TheVariants.{Fetch}
+use Rattle.pg_run.specs.pg_msg.declared.message.Sent.{Sent}
+use Rattle.pg_run.specs.pg_store.declared.store.Store.{Store}
+use Rattle.pg_run.specs.pg_store.declared.wishes.Wish.{Wish}
+use Rattle.pg_run.specs.pg_store.Births.{draw_birth, with_birth, with_wish}
+use Rattle.pg_run.specs.pg_store.Store.{is_full}
+use Rattle.pg_run.specs.pg_pieces.Posting.{sent_to}
+use Rattle.pg_run.specs.Run.{Step, World, next, run}
 use Rattle.law_refused.specs.Asked.{IsAskedFirst, IsStanding, NothingStands}
 
 -- ---- what is asked, of a server that held one store and holds another now

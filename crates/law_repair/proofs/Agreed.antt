@@ -1,15 +1,15 @@
 -- What is known of a gold replica of server k.
 use Rattle.std.proofs.Common.{ℕ, ◌≡◌, true, Some, sym, subst}
 use Rattle.std.specs.Prelude.{Contains}
-use Rattle.law_full.specs.pg_base.declared.id.FileId.{FileId}
-use Rattle.law_full.specs.pg_msg.declared.message.Ends.{Ends}
-use Rattle.law_full.specs.pg_msg.declared.message.Message.TheVariants as message
-use Rattle.law_full.specs.pg_msg.declared.message.Sent.{Sent}
-use Rattle.law_full.specs.pg_store.declared.store.Store.{Store}
-use Rattle.law_full.specs.pg_store.Store.{is_full}
-use Rattle.law_full.specs.pg_store.Together.{birth_at}
-use Rattle.law_full.specs.pg_run.Journal.{mail}
-use Rattle.law_full.specs.pg_run.Run.{World, is_live}
+use Rattle.pg_run.specs.pg_base.declared.id.FileId.{FileId}
+use Rattle.pg_run.specs.pg_msg.declared.message.Ends.{Ends}
+use Rattle.pg_run.specs.pg_msg.declared.message.Message.TheVariants as message
+use Rattle.pg_run.specs.pg_msg.declared.message.Sent.{Sent}
+use Rattle.pg_run.specs.pg_store.declared.store.Store.{Store}
+use Rattle.pg_run.specs.pg_store.Store.{is_full}
+use Rattle.pg_run.specs.pg_store.Together.{birth_at}
+use Rattle.pg_run.specs.Journal.{mail}
+use Rattle.pg_run.specs.Run.{World, is_live}
 use Rattle.law_repair.proofs.GoldsThere.{flag_at}
 
 -- its replica is full, and this store knows its present flag

@@ -1,8 +1,8 @@
 -- Chains of edges, joined and turned.
 use Rattle.std.proofs.Common.{ℕ, List, [], ◌∷◌, ◌++◌, ◌≡◌, ◌⊎◌, inl, inr, sym, subst}
-use Rattle.law_full.specs.pg_base.declared.id.FileId.{FileId}
-use Rattle.law_full.specs.pg_run.Graphs.{AreJoined, HasEdge, IsChain}
-use Rattle.law_full.specs.pg_run.Run.{World}
+use Rattle.pg_run.specs.pg_base.declared.id.FileId.{FileId}
+use Rattle.pg_run.specs.Graphs.{AreJoined, HasEdge, IsChain}
+use Rattle.pg_run.specs.Run.{World}
 
 module _ (w : World) (file : FileId) where
   pub turned : (s t : ℕ) → HasEdge w file s t → HasEdge w file t s

@@ -3,58 +3,58 @@ use Rattle.std.proofs.Common.{ℕ, ◌≡◌, ◌≤◌, ◌+◌, zero, suc, Boo
 use Rattle.std.proofs.lemmas.Bool.{false≢true, false_from_ne_true, or_from, or_left, or_right}
 use Rattle.std.proofs.lemmas.List.{append-nil}
 use Rattle.std.proofs.lemmas.Option.{none-some, same_Some}
-use Rattle.law_full.specs.pg_base.declared.id.FileId.{FileId}
-use Rattle.law_full.specs.pg_base.declared.id.Kind.{Kind}
-use Rattle.law_full.specs.pg_base.declared.id.Kind.TheVariants.{Dir, File}
-use Rattle.law_full.specs.pg_base.declared.policy.Policy.{Policy}
-use Rattle.law_full.specs.pg_base.declared.policy.Policy.TheVariants.{Last}
-use Rattle.law_full.specs.pg_base.declared.stamp.Stamp.{Stamp}
-use Rattle.law_golds.specs.law_contents.pg_announced.Announced.{first_of}
-use Rattle.law_full.specs.pg_call.declared.call.Call.{Call}
-use Rattle.law_full.specs.pg_call.declared.call.Call.TheVariants as call
-use Rattle.law_full.specs.pg_call.declared.refusal.Refusal.{Refusal}
-use Rattle.law_full.specs.pg_call.declared.refusal.Refusal.TheVariants as refusal
-use Rattle.law_full.specs.pg_call.declared.reply.Reply.{Reply}
-use Rattle.law_full.specs.pg_call.declared.reply.Reply.TheVariants as reply
-use Rattle.law_full.specs.pg_calls.Bodies.{change, change_file, when_fit}
-use Rattle.law_full.specs.pg_calls.Calls.{do_call}
-use Rattle.law_full.specs.pg_calls.Demoting.{demoted_at}
-use Rattle.law_full.specs.pg_calls.Dropping.{clean_gold, dropped_at, leaving}
-use Rattle.law_full.specs.pg_calls.Forgetting.{lost_at}
-use Rattle.law_full.specs.pg_calls.GivingUp.{removal_at}
-use Rattle.law_full.specs.pg_calls.Looks.{freshness}
-use Rattle.law_full.specs.pg_calls.Naming.{begun, next_id, place_in, with_id, with_thing}
-use Rattle.law_full.specs.pg_checks.declared.checks.NewName.{NewName}
-use Rattle.law_full.specs.pg_checks.Answer.{Answer, answered, replied, told}
-use Rattle.law_full.specs.pg_checks.Checks.{dir_at, empty_dir_at, file_at, in_time, move_of, new_name, target_at}
-use Rattle.law_full.specs.pg_lookup.declared.paths.LookupError.{LookupError}
-use Rattle.law_full.specs.pg_lookup.declared.paths.LookupError.TheVariants as stop
+use Rattle.pg_run.specs.pg_base.declared.id.FileId.{FileId}
+use Rattle.pg_run.specs.pg_base.declared.id.Kind.{Kind}
+use Rattle.pg_run.specs.pg_base.declared.id.Kind.TheVariants.{Dir, File}
+use Rattle.pg_run.specs.pg_base.declared.policy.Policy.{Policy}
+use Rattle.pg_run.specs.pg_base.declared.policy.Policy.TheVariants.{Last}
+use Rattle.pg_run.specs.pg_base.declared.stamp.Stamp.{Stamp}
+use Rattle.pg_run.specs.pg_announced.Announced.{first_of}
+use Rattle.pg_run.specs.pg_call.declared.call.Call.{Call}
+use Rattle.pg_run.specs.pg_call.declared.call.Call.TheVariants as call
+use Rattle.pg_run.specs.pg_call.declared.refusal.Refusal.{Refusal}
+use Rattle.pg_run.specs.pg_call.declared.refusal.Refusal.TheVariants as refusal
+use Rattle.pg_run.specs.pg_call.declared.reply.Reply.{Reply}
+use Rattle.pg_run.specs.pg_call.declared.reply.Reply.TheVariants as reply
+use Rattle.pg_run.specs.pg_calls.Bodies.{change, change_file, when_fit}
+use Rattle.pg_run.specs.pg_calls.Calls.{do_call}
+use Rattle.pg_run.specs.pg_calls.Demoting.{demoted_at}
+use Rattle.pg_run.specs.pg_calls.Dropping.{clean_gold, dropped_at, leaving}
+use Rattle.pg_run.specs.pg_calls.Forgetting.{lost_at}
+use Rattle.pg_run.specs.pg_calls.GivingUp.{removal_at}
+use Rattle.pg_run.specs.pg_calls.Looks.{freshness}
+use Rattle.pg_run.specs.pg_calls.Naming.{begun, next_id, place_in, with_id, with_thing}
+use Rattle.pg_run.specs.pg_checks.declared.checks.NewName.{NewName}
+use Rattle.pg_run.specs.pg_checks.Answer.{Answer, answered, replied, told}
+use Rattle.pg_run.specs.pg_checks.Checks.{dir_at, empty_dir_at, file_at, in_time, move_of, new_name, target_at}
+use Rattle.pg_run.specs.pg_lookup.declared.paths.LookupError.{LookupError}
+use Rattle.pg_run.specs.pg_lookup.declared.paths.LookupError.TheVariants as stop
 use Rattle.law_golds.proofs.law_contents.Pieces.{flag_keeps, patches_keep, place_keeps}
 use Rattle.law_leaving.proofs.Lists.{IsLast, along, split_last}
-use Rattle.law_full.specs.pg_event.declared.event.Event.{Event}
+use Rattle.pg_run.specs.pg_event.declared.event.Event.{Event}
 use Rattle.law_full.proofs.Effects.{effect_kept}
-use Rattle.law_full.specs.pg_msg.declared.work.Work.{Work}
-use Rattle.law_full.specs.pg_msg.Work.{new_work}
-use Rattle.law_full.specs.pg_names.declared.attributes.Attributes.{Attributes}
-use Rattle.law_full.specs.pg_names.Names.{InodeValue, blank_own, is_full as names_full, is_full_of, known, own_of}
-use Rattle.law_full.proofs.pg_names.Holding.{begun_same}
+use Rattle.pg_run.specs.pg_msg.declared.work.Work.{Work}
+use Rattle.pg_run.specs.pg_msg.Work.{new_work}
+use Rattle.pg_run.specs.pg_names.declared.attributes.Attributes.{Attributes}
+use Rattle.pg_run.specs.pg_names.Names.{InodeValue, blank_own, is_full as names_full, is_full_of, known, own_of}
+use Rattle.pg_run.proofs.pg_names.Holding.{begun_same}
 use Rattle.law_golds.specs.law_order.Laws.{AllIsNamed}
 use Rattle.law_golds.specs.law_order.Named.{IsMade}
 use Rattle.law_golds.proofs.law_order.Files.{effect_files}
 use Rattle.law_quiet.specs.Given.{ServersAreWhole}
-use Rattle.law_full.proofs.pg_calls.Walked.{full_held}
-use Rattle.law_full.proofs.pg_run.QuietAnswers.{at_or_below}
-use Rattle.law_full.specs.pg_register.declared.flag.Flag.{Flag}
-use Rattle.law_full.specs.pg_pieces.Making.{own_next}
-use Rattle.law_full.specs.pg_patch.Ranges.{RangesValue, cut_to, written}
-use Rattle.law_full.specs.pg_server.declared.input.Input.{Input}
-use Rattle.law_full.specs.pg_server.declared.input.Input.TheVariants as input
-use Rattle.law_full.specs.pg_server.Local.{effect, first_effect, reply_to}
-use Rattle.law_full.specs.pg_store.declared.store.Store.{Store}
-use Rattle.law_full.specs.pg_store.Beginning.{patches_of, put_new}
-use Rattle.law_full.specs.pg_store.Births.{draw_birth, with_birth}
-use Rattle.law_full.specs.pg_store.Store.{is_full, is_held, is_before_clock_end, take_place}
-use Rattle.law_full.specs.pg_run.Run.{World, next, run}
+use Rattle.pg_run.proofs.pg_calls.Walked.{full_held}
+use Rattle.pg_run.proofs.QuietAnswers.{at_or_below}
+use Rattle.pg_run.specs.pg_register.declared.flag.Flag.{Flag}
+use Rattle.pg_run.specs.pg_pieces.Making.{own_next}
+use Rattle.pg_run.specs.pg_patch.Ranges.{RangesValue, cut_to, written}
+use Rattle.pg_run.specs.pg_server.declared.input.Input.{Input}
+use Rattle.pg_run.specs.pg_server.declared.input.Input.TheVariants as input
+use Rattle.pg_run.specs.pg_server.Local.{effect, first_effect, reply_to}
+use Rattle.pg_run.specs.pg_store.declared.store.Store.{Store}
+use Rattle.pg_run.specs.pg_store.Beginning.{patches_of, put_new}
+use Rattle.pg_run.specs.pg_store.Births.{draw_birth, with_birth}
+use Rattle.pg_run.specs.pg_store.Store.{is_full, is_held, is_before_clock_end, take_place}
+use Rattle.pg_run.specs.Run.{World, next, run}
 use Rattle.law_repair.specs.Kept.{IsCreated, MadeThingsAreCreated, is_held_by}
 use Rattle.law_repair.proofs.FlagHad.{same_number}
 use Rattle.law_repair.proofs.Stays.{full_rules}

@@ -3,34 +3,34 @@
 use Rattle.std.proofs.Common.{ℕ, ◌≡◌, ◌≢◌, not, true, false, cond, List, [], ◌∷◌, ◌++◌, Option, None, Some, All, refl, sym, ap, subst, ◌∙◌, inl, inr}
 use Rattle.std.proofs.lemmas.Bool.{and_parts, ne_eqb, not-true}
 use Rattle.std.proofs.lemmas.Option.{same_Some}
-use Rattle.law_full.specs.pg_base.declared.id.FileId.{FileId}
-use Rattle.law_full.specs.pg_content.Content.{Among}
-use Rattle.law_full.proofs.pg_content.Members.{among_all}
-use Rattle.law_full.specs.pg_entries.declared.entry.Entry.{Entry}
-use Rattle.law_full.specs.pg_msg.declared.update.Update.{Update}
-use Rattle.law_full.specs.pg_msg.declared.update.Update.TheVariants as update
-use Rattle.law_full.specs.pg_msg.declared.work.Work.{Work}
-use Rattle.law_full.specs.pg_msg.Work.{with_made}
-use Rattle.law_full.specs.pg_names.declared.attributes.Attributes.{Attributes}
-use Rattle.law_full.specs.pg_names.Names.{cell_at, or_blank, own_at}
-use Rattle.law_full.proofs.pg_names.Lookups.{flag_same}
-use Rattle.law_full.specs.pg_register.declared.flag.Flag.{Flag}
-use Rattle.law_full.specs.pg_register.Flag.{flag_of, is_live, is_removed, newest}
-use Rattle.law_full.proofs.pg_register.ByServer.{flag_of-join_flag}
-use Rattle.law_full.specs.pg_replica.declared.replica.Replica.{Replica}
-use Rattle.law_full.specs.pg_pieces.Done.{Done}
-use Rattle.law_full.specs.pg_pieces.Golds.{flags_of}
-use Rattle.law_full.specs.pg_pieces.Making.{lower_flag, own_next}
-use Rattle.law_full.specs.pg_store.declared.store.Store.{Store}
-use Rattle.law_full.specs.pg_store.Links.{is_clean}
-use Rattle.law_full.specs.pg_store.Seen.{removed_of}
-use Rattle.law_full.specs.pg_store.Store.{is_newer_flag, put_flag, replica_at, take_flag}
-use Rattle.law_full.specs.theory_flood_pieces.Whole.{IsWhole}
-use Rattle.law_full.proofs.theory_flood_pieces.Choices.{chosen}
+use Rattle.pg_run.specs.pg_base.declared.id.FileId.{FileId}
+use Rattle.pg_run.specs.pg_content.Content.{Among}
+use Rattle.pg_run.proofs.pg_content.Members.{among_all}
+use Rattle.pg_run.specs.pg_entries.declared.entry.Entry.{Entry}
+use Rattle.pg_run.specs.pg_msg.declared.update.Update.{Update}
+use Rattle.pg_run.specs.pg_msg.declared.update.Update.TheVariants as update
+use Rattle.pg_run.specs.pg_msg.declared.work.Work.{Work}
+use Rattle.pg_run.specs.pg_msg.Work.{with_made}
+use Rattle.pg_run.specs.pg_names.declared.attributes.Attributes.{Attributes}
+use Rattle.pg_run.specs.pg_names.Names.{cell_at, or_blank, own_at}
+use Rattle.pg_run.proofs.pg_names.Lookups.{flag_same}
+use Rattle.pg_run.specs.pg_register.declared.flag.Flag.{Flag}
+use Rattle.pg_run.specs.pg_register.Flag.{flag_of, is_live, is_removed, newest}
+use Rattle.pg_run.proofs.pg_register.ByServer.{flag_of-join_flag}
+use Rattle.pg_run.specs.pg_replica.declared.replica.Replica.{Replica}
+use Rattle.pg_run.specs.pg_pieces.Done.{Done}
+use Rattle.pg_run.specs.pg_pieces.Golds.{flags_of}
+use Rattle.pg_run.specs.pg_pieces.Making.{lower_flag, own_next}
+use Rattle.pg_run.specs.pg_store.declared.store.Store.{Store}
+use Rattle.pg_run.specs.pg_store.Links.{is_clean}
+use Rattle.pg_run.specs.pg_store.Seen.{removed_of}
+use Rattle.pg_run.specs.pg_store.Store.{is_newer_flag, put_flag, replica_at, take_flag}
+use Rattle.pg_run.specs.theory_flood_pieces.Whole.{IsWhole}
+use Rattle.pg_run.proofs.theory_flood_pieces.Choices.{chosen}
 use Rattle.law_golds.specs.law_births.Flags.{SaysNames}
 use Rattle.law_golds.proofs.law_births.NamesSay.{says_flag}
 use Rattle.law_golds.proofs.Flags.{there_found}
-use Rattle.law_full.proofs.pg_run.Still.{flag_still}
+use Rattle.pg_run.proofs.Still.{flag_still}
 use Rattle.law_repair.proofs.GoldsThere.{flag_at, own_of_known}
 use Rattle.law_repair.proofs.Settling.{Stands, UpTo}
 use Rattle.law_repair.proofs.EventEnds.{clean_other, taken_removed}

@@ -1,36 +1,36 @@
 -- What the end of an event leaves of removals, and of what was made; and where a clean edge leads.
 use Rattle.std.proofs.Common.{ℕ, ◌≡◌, ◌≢◌, ◌<◌, ◌==◌, ◌||◌, ◌&&◌, nat_lt, true, List, drop, length, Option, None, Some, is_some, refl, sym, ap, subst, ◌∙◌, arith}
 use Rattle.std.proofs.lemmas.Bool.Decides.{nat_tests}
-use Rattle.law_full.specs.pg_base.declared.id.FileId.{FileId}
-use Rattle.law_full.specs.pg_edges.declared.key.Key.{Key}
-use Rattle.law_full.specs.pg_edges.Edges.{keys_at}
-use Rattle.law_full.specs.pg_house.House.{house}
-use Rattle.law_full.specs.pg_house.Work.{state_of}
-use Rattle.law_full.proofs.pg_house.Keys.{rules_by}
-use Rattle.law_full.specs.pg_msg.declared.update.Update.{Update}
-use Rattle.law_full.specs.pg_msg.declared.work.Work.{Work}
-use Rattle.law_full.specs.pg_names.Names.{NamesValue, with_flag}
-use Rattle.law_full.proofs.pg_names.Lookups.{update_frame}
-use Rattle.law_full.specs.pg_register.declared.flag.Flag.{Flag}
-use Rattle.law_full.specs.pg_replica.declared.replica.Replica.{Replica}
-use Rattle.law_full.specs.pg_replica.Replica.{are_none, is_clean_to}
-use Rattle.law_full.specs.pg_replica.Replicas.{or_nothing}
-use Rattle.law_full.specs.pg_pieces.Done.{Done}
-use Rattle.law_full.specs.pg_pieces.Making.{own_next}
-use Rattle.law_full.specs.pg_cells.Settling.{rules, settle}
-use Rattle.law_full.proofs.pg_cells.Settled.{settle_keeps}
-use Rattle.law_full.proofs.pg_intentions.Steady.{begin_end_stays}
-use Rattle.law_full.specs.pg_server.declared.input.Input.{Input}
-use Rattle.law_full.specs.pg_server.Local.{Effect, effect, first_effect, intended, settled, takes_effect}
-use Rattle.law_full.specs.pg_store.declared.store.Store.{Store}
-use Rattle.law_full.specs.pg_store.Links.{is_clean}
-use Rattle.law_full.specs.pg_store.Seen.{removed_of}
-use Rattle.law_full.specs.pg_store.Store.{is_newer_flag, put_flag, replica_at, take_flag, with_names}
-use Rattle.law_full.specs.theory_flood_pieces.Whole.{IsWhole}
-use Rattle.law_full.proofs.theory_flood_pieces.Choices.{chosen}
-use Rattle.law_full.proofs.theory_flood_pieces.Touching.{same_names}
-use Rattle.law_full.proofs.pg_run.Event.{effect_is, store_is}
-use Rattle.law_full.proofs.pg_run.Found.{listed_edge}
+use Rattle.pg_run.specs.pg_base.declared.id.FileId.{FileId}
+use Rattle.pg_run.specs.pg_edges.declared.key.Key.{Key}
+use Rattle.pg_run.specs.pg_edges.Edges.{keys_at}
+use Rattle.pg_run.specs.pg_house.House.{house}
+use Rattle.pg_run.specs.pg_house.Work.{state_of}
+use Rattle.pg_run.proofs.pg_house.Keys.{rules_by}
+use Rattle.pg_run.specs.pg_msg.declared.update.Update.{Update}
+use Rattle.pg_run.specs.pg_msg.declared.work.Work.{Work}
+use Rattle.pg_run.specs.pg_names.Names.{NamesValue, with_flag}
+use Rattle.pg_run.proofs.pg_names.Lookups.{update_frame}
+use Rattle.pg_run.specs.pg_register.declared.flag.Flag.{Flag}
+use Rattle.pg_run.specs.pg_replica.declared.replica.Replica.{Replica}
+use Rattle.pg_run.specs.pg_replica.Replica.{are_none, is_clean_to}
+use Rattle.pg_run.specs.pg_replica.Replicas.{or_nothing}
+use Rattle.pg_run.specs.pg_pieces.Done.{Done}
+use Rattle.pg_run.specs.pg_pieces.Making.{own_next}
+use Rattle.pg_run.specs.pg_cells.Settling.{rules, settle}
+use Rattle.pg_run.proofs.pg_cells.Settled.{settle_keeps}
+use Rattle.pg_run.proofs.pg_intentions.Steady.{begin_end_stays}
+use Rattle.pg_run.specs.pg_server.declared.input.Input.{Input}
+use Rattle.pg_run.specs.pg_server.Local.{Effect, effect, first_effect, intended, settled, takes_effect}
+use Rattle.pg_run.specs.pg_store.declared.store.Store.{Store}
+use Rattle.pg_run.specs.pg_store.Links.{is_clean}
+use Rattle.pg_run.specs.pg_store.Seen.{removed_of}
+use Rattle.pg_run.specs.pg_store.Store.{is_newer_flag, put_flag, replica_at, take_flag, with_names}
+use Rattle.pg_run.specs.theory_flood_pieces.Whole.{IsWhole}
+use Rattle.pg_run.proofs.theory_flood_pieces.Choices.{chosen}
+use Rattle.pg_run.proofs.theory_flood_pieces.Touching.{same_names}
+use Rattle.pg_run.proofs.Event.{effect_is, store_is}
+use Rattle.pg_run.proofs.Found.{listed_edge}
 use Rattle.law_repair.proofs.QuietEdges.{edge_other}
 
 -- ---- numbers

@@ -1,71 +1,71 @@
 -- What becomes full in an event, and that what is full stays so.
 use Rattle.std.proofs.Common.{ℕ, ◌≡◌, ◌==◌, not, Bool, true, false, cond, List, Option, None, Some, Result, Ok, Err, is_some, refl, sym, ap, subst, ◌∙◌, inl, inr, ◌⊎◌}
 use Rattle.std.proofs.lemmas.Bool.{false≢true}
-use Rattle.law_full.specs.pg_base.declared.id.FileId.{FileId}
-use Rattle.law_full.specs.pg_base.declared.id.Kind.{Kind}
-use Rattle.law_full.specs.pg_base.declared.id.Kind.TheVariants.{Dir, File}
-use Rattle.law_full.specs.pg_base.declared.policy.Policy.{Policy}
-use Rattle.law_full.specs.pg_base.declared.policy.Policy.TheVariants.{Last}
-use Rattle.law_full.specs.pg_base.Id.{is_same_file}
-use Rattle.law_full.proofs.pg_base.Orders.{is_same_file-true}
-use Rattle.law_full.specs.pg_call.declared.call.Call.{Call}
-use Rattle.law_full.specs.pg_call.declared.call.Call.TheVariants as call
-use Rattle.law_full.specs.pg_call.declared.refusal.Refusal.TheVariants.{Held, Root, ClockEnd}
-use Rattle.law_full.specs.pg_call.declared.reply.Reply.{Reply}
-use Rattle.law_full.specs.pg_call.declared.reply.Reply.TheVariants as reply
-use Rattle.law_full.specs.pg_patch.Ranges.{RangesValue, cut_to, written}
-use Rattle.law_full.specs.pg_house.House.{house}
-use Rattle.law_full.specs.pg_house.Returning.{is_root}
-use Rattle.law_full.specs.pg_house.Work.{state_of}
-use Rattle.law_full.proofs.pg_house.Fullness.{rules_full}
-use Rattle.law_full.specs.pg_msg.declared.message.Ends.{Ends}
-use Rattle.law_full.specs.pg_msg.declared.message.Message.TheVariants as message
-use Rattle.law_full.specs.pg_msg.declared.message.Packet.{Packet}
-use Rattle.law_full.specs.pg_msg.declared.work.Work.{Work}
-use Rattle.law_full.specs.pg_msg.Work.{new_work}
-use Rattle.law_full.specs.pg_names.declared.attributes.Attributes.{Attributes}
-use Rattle.law_full.specs.pg_names.Names.{InodeValue, NamesValue, begin as begin_names, blank_own, fill as fill_names, is_full as names_full, is_full_of, is_held as names_held, join_entry, join_flag, join_place, known, let_go as let_go_names, new_held, update, with_flag, with_joined, with_place}
-use Rattle.law_full.proofs.pg_names.Gone.{gone_known}
-use Rattle.law_full.proofs.pg_names.Holding.{begun_known, fill_other, fill_same, full_kept}
-use Rattle.law_full.proofs.pg_names.Lookups.{update_frame}
-use Rattle.law_full.specs.pg_register.declared.flag.Flag.{Flag}
-use Rattle.law_full.specs.pg_register.declared.place.Place.{Place}
-use Rattle.law_full.specs.pg_calls.Bodies.{change, change_file, when_fit}
-use Rattle.law_full.specs.pg_calls.Calls.{do_call}
-use Rattle.law_full.specs.pg_calls.Demoting.{demoted_at, unless_root}
-use Rattle.law_full.specs.pg_calls.Dropping.{clean_gold, dropped_at, leaving}
-use Rattle.law_full.specs.pg_calls.Forgetting.{forget_lost, lost_at, unless_full}
-use Rattle.law_full.specs.pg_calls.GivingUp.{removal_at}
-use Rattle.law_full.specs.pg_calls.Naming.{begun, next_id, place_in, with_id, with_thing}
-use Rattle.law_full.proofs.pg_calls.Checked.{behind, unless_ok}
-use Rattle.law_full.specs.pg_checks.declared.checks.NewName.{NewName}
-use Rattle.law_full.specs.pg_checks.Answer.{Answer, answer, answered, replied, told}
-use Rattle.law_full.specs.pg_checks.Asking.{ask_by, ask_first, fetch, fresh_wish, holder, standing}
-use Rattle.law_full.specs.pg_checks.Checks.{dir_at, empty_dir_at, file_at, in_time, move_of, new_name, target_at}
-use Rattle.law_full.specs.pg_lookup.Walk.{and_then}
-use Rattle.law_full.specs.pg_lookup.declared.paths.Found.{Found}
-use Rattle.law_full.specs.pg_lookup.declared.paths.LookupError.{LookupError}
-use Rattle.law_full.specs.pg_lookup.declared.paths.LookupError.TheVariants as stop
-use Rattle.law_full.specs.pg_pieces.Done.{Done, idle}
-use Rattle.law_full.specs.pg_pieces.Golds.{is_gold}
-use Rattle.law_full.specs.pg_pieces.Making.{lower_flag, own_next}
-use Rattle.law_full.specs.pg_server.declared.input.Input.{Input}
-use Rattle.law_full.specs.pg_server.declared.input.Input.TheVariants as input
-use Rattle.law_full.specs.pg_server.Local.{effect, first_effect, reply_to, ticked}
-use Rattle.law_full.specs.pg_store.declared.store.Store.{Store}
-use Rattle.law_full.specs.pg_store.declared.wishes.Wish.{Wish}
-use Rattle.law_full.specs.pg_store.Births.{draw_birth, has_birth, with_birth, with_wish}
-use Rattle.law_full.specs.pg_store.Store.{is_full, is_before_clock_end, replica_at, take_place}
-use Rattle.law_full.specs.pg_store.Together.{birth_at}
-use Rattle.law_full.proofs.pg_store.Entered.{enter_names}
-use Rattle.law_full.proofs.theory_flood_pieces.Choices.{chosen}
-use Rattle.law_full.proofs.theory_flood_pieces.Together.{held_by_keys}
+use Rattle.pg_run.specs.pg_base.declared.id.FileId.{FileId}
+use Rattle.pg_run.specs.pg_base.declared.id.Kind.{Kind}
+use Rattle.pg_run.specs.pg_base.declared.id.Kind.TheVariants.{Dir, File}
+use Rattle.pg_run.specs.pg_base.declared.policy.Policy.{Policy}
+use Rattle.pg_run.specs.pg_base.declared.policy.Policy.TheVariants.{Last}
+use Rattle.pg_run.specs.pg_base.Id.{is_same_file}
+use Rattle.pg_run.proofs.pg_base.Orders.{is_same_file-true}
+use Rattle.pg_run.specs.pg_call.declared.call.Call.{Call}
+use Rattle.pg_run.specs.pg_call.declared.call.Call.TheVariants as call
+use Rattle.pg_run.specs.pg_call.declared.refusal.Refusal.TheVariants.{Held, Root, ClockEnd}
+use Rattle.pg_run.specs.pg_call.declared.reply.Reply.{Reply}
+use Rattle.pg_run.specs.pg_call.declared.reply.Reply.TheVariants as reply
+use Rattle.pg_run.specs.pg_patch.Ranges.{RangesValue, cut_to, written}
+use Rattle.pg_run.specs.pg_house.House.{house}
+use Rattle.pg_run.specs.pg_house.Returning.{is_root}
+use Rattle.pg_run.specs.pg_house.Work.{state_of}
+use Rattle.pg_run.proofs.pg_house.Fullness.{rules_full}
+use Rattle.pg_run.specs.pg_msg.declared.message.Ends.{Ends}
+use Rattle.pg_run.specs.pg_msg.declared.message.Message.TheVariants as message
+use Rattle.pg_run.specs.pg_msg.declared.message.Packet.{Packet}
+use Rattle.pg_run.specs.pg_msg.declared.work.Work.{Work}
+use Rattle.pg_run.specs.pg_msg.Work.{new_work}
+use Rattle.pg_run.specs.pg_names.declared.attributes.Attributes.{Attributes}
+use Rattle.pg_run.specs.pg_names.Names.{InodeValue, NamesValue, begin as begin_names, blank_own, fill as fill_names, is_full as names_full, is_full_of, is_held as names_held, join_entry, join_flag, join_place, known, let_go as let_go_names, new_held, update, with_flag, with_joined, with_place}
+use Rattle.pg_run.proofs.pg_names.Gone.{gone_known}
+use Rattle.pg_run.proofs.pg_names.Holding.{begun_known, fill_other, fill_same, full_kept}
+use Rattle.pg_run.proofs.pg_names.Lookups.{update_frame}
+use Rattle.pg_run.specs.pg_register.declared.flag.Flag.{Flag}
+use Rattle.pg_run.specs.pg_register.declared.place.Place.{Place}
+use Rattle.pg_run.specs.pg_calls.Bodies.{change, change_file, when_fit}
+use Rattle.pg_run.specs.pg_calls.Calls.{do_call}
+use Rattle.pg_run.specs.pg_calls.Demoting.{demoted_at, unless_root}
+use Rattle.pg_run.specs.pg_calls.Dropping.{clean_gold, dropped_at, leaving}
+use Rattle.pg_run.specs.pg_calls.Forgetting.{forget_lost, lost_at, unless_full}
+use Rattle.pg_run.specs.pg_calls.GivingUp.{removal_at}
+use Rattle.pg_run.specs.pg_calls.Naming.{begun, next_id, place_in, with_id, with_thing}
+use Rattle.pg_run.proofs.pg_calls.Checked.{behind, unless_ok}
+use Rattle.pg_run.specs.pg_checks.declared.checks.NewName.{NewName}
+use Rattle.pg_run.specs.pg_checks.Answer.{Answer, answer, answered, replied, told}
+use Rattle.pg_run.specs.pg_checks.Asking.{ask_by, ask_first, fetch, fresh_wish, holder, standing}
+use Rattle.pg_run.specs.pg_checks.Checks.{dir_at, empty_dir_at, file_at, in_time, move_of, new_name, target_at}
+use Rattle.pg_run.specs.pg_lookup.Walk.{and_then}
+use Rattle.pg_run.specs.pg_lookup.declared.paths.Found.{Found}
+use Rattle.pg_run.specs.pg_lookup.declared.paths.LookupError.{LookupError}
+use Rattle.pg_run.specs.pg_lookup.declared.paths.LookupError.TheVariants as stop
+use Rattle.pg_run.specs.pg_pieces.Done.{Done, idle}
+use Rattle.pg_run.specs.pg_pieces.Golds.{is_gold}
+use Rattle.pg_run.specs.pg_pieces.Making.{lower_flag, own_next}
+use Rattle.pg_run.specs.pg_server.declared.input.Input.{Input}
+use Rattle.pg_run.specs.pg_server.declared.input.Input.TheVariants as input
+use Rattle.pg_run.specs.pg_server.Local.{effect, first_effect, reply_to, ticked}
+use Rattle.pg_run.specs.pg_store.declared.store.Store.{Store}
+use Rattle.pg_run.specs.pg_store.declared.wishes.Wish.{Wish}
+use Rattle.pg_run.specs.pg_store.Births.{draw_birth, has_birth, with_birth, with_wish}
+use Rattle.pg_run.specs.pg_store.Store.{is_full, is_before_clock_end, replica_at, take_place}
+use Rattle.pg_run.specs.pg_store.Together.{birth_at}
+use Rattle.pg_run.proofs.pg_store.Entered.{enter_names}
+use Rattle.pg_run.proofs.theory_flood_pieces.Choices.{chosen}
+use Rattle.pg_run.proofs.theory_flood_pieces.Together.{held_by_keys}
 use Rattle.law_golds.proofs.law_births.Here.{of_birth}
 use Rattle.law_full.proofs.Coming.{receive_kept}
 use Rattle.law_full.proofs.Effects.{RulesKeep, arrival_kept, effect_kept}
 use Rattle.law_full.proofs.Losing.{lost_kept}
 use Rattle.law_full.proofs.Pieces.{AreKept, begin_kept, flag_kept, place_kept}
-use Rattle.law_full.specs.pg_run.Run.{run}
+use Rattle.pg_run.specs.Run.{run}
 use Rattle.law_repair.specs.Facts.{ForgetsIt, FullBegins, MakesIt, TellsFull}
 
 -- ---- one thing, in any names

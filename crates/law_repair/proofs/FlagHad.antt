@@ -2,23 +2,23 @@
 use Rattle.std.proofs.Common.{ℕ, ◌≡◌, ◌≢◌, ◌==◌, Bool, true, false, Option, None, Some, refl, sym, ap, subst, ◌∙◌, inl, inr, ◌⊎◌}
 use Rattle.std.proofs.lemmas.Bool.{eqb-true, eqb-false}
 use Rattle.std.proofs.lemmas.Option.{none-some, same_Some}
-use Rattle.law_full.specs.pg_base.declared.id.FileId.{FileId}
-use Rattle.law_full.specs.pg_edges.declared.key.Key.{Key}
-use Rattle.law_full.specs.pg_edges.declared.key.Key.TheVariants as key
-use Rattle.law_full.specs.pg_entries.declared.cell.Cell.{Cell}
-use Rattle.law_full.specs.pg_entries.declared.cell.Cell.TheVariants as cell
-use Rattle.law_full.specs.pg_entries.declared.entry.Entry.{Entry}
-use Rattle.law_full.specs.theory_flood.Server.{Holds as HoldsCell}
-use Rattle.law_full.specs.pg_names.Names.{own_or_blank, cell_at as entry_at}
-use Rattle.law_full.specs.pg_register.declared.flag.Flag.{Flag}
-use Rattle.law_full.specs.pg_register.Flag.{flag_of, is_older}
-use Rattle.law_full.specs.pg_replica.Replica.{cell_at as head_at}
-use Rattle.law_full.specs.pg_base.Version.{VersionValue}
-use Rattle.law_full.specs.pg_store.declared.store.Store.{Store}
-use Rattle.law_full.specs.pg_store.Cells.{cell_at, entry_cell, flag_cell, is_sure, version_cell}
-use Rattle.law_full.specs.pg_store.Store.{content_of}
-use Rattle.law_full.specs.theory_flood_pieces.UpTo.{IsFlagKnownBy, IsFlagUpTo, IsUpTo}
-use Rattle.law_full.proofs.pg_run.Found.{flag_found}
+use Rattle.pg_run.specs.pg_base.declared.id.FileId.{FileId}
+use Rattle.pg_run.specs.pg_edges.declared.key.Key.{Key}
+use Rattle.pg_run.specs.pg_edges.declared.key.Key.TheVariants as key
+use Rattle.pg_run.specs.pg_entries.declared.cell.Cell.{Cell}
+use Rattle.pg_run.specs.pg_entries.declared.cell.Cell.TheVariants as cell
+use Rattle.pg_run.specs.pg_entries.declared.entry.Entry.{Entry}
+use Rattle.pg_run.specs.theory_flood.Server.{Holds as HoldsCell}
+use Rattle.pg_run.specs.pg_names.Names.{own_or_blank, cell_at as entry_at}
+use Rattle.pg_run.specs.pg_register.declared.flag.Flag.{Flag}
+use Rattle.pg_run.specs.pg_register.Flag.{flag_of, is_older}
+use Rattle.pg_run.specs.pg_replica.Replica.{cell_at as head_at}
+use Rattle.pg_run.specs.pg_base.Version.{VersionValue}
+use Rattle.pg_run.specs.pg_store.declared.store.Store.{Store}
+use Rattle.pg_run.specs.pg_store.Cells.{cell_at, entry_cell, flag_cell, is_sure, version_cell}
+use Rattle.pg_run.specs.pg_store.Store.{content_of}
+use Rattle.pg_run.specs.theory_flood_pieces.UpTo.{IsFlagKnownBy, IsFlagUpTo, IsUpTo}
+use Rattle.pg_run.proofs.Found.{flag_found}
 use Rattle.law_repair.proofs.GoldsThere.{flag_at}
 
 -- two servers are one, or they are not

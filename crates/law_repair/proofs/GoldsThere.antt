@@ -4,27 +4,27 @@ use Rattle.std.specs.List.{IsAmong}
 use Rattle.std.proofs.lemmas.Bool.{and_parts, eqb-true, false≢true}
 use Rattle.std.proofs.lemmas.Bool.Decides.{nat_tests}
 use Rattle.std.proofs.lemmas.Option.{none-some, same_Some}
-use Rattle.law_full.specs.pg_base.declared.id.FileId.{FileId}
-use Rattle.law_full.specs.pg_event.declared.event.Event.{Event}
-use Rattle.law_full.specs.pg_names.declared.attributes.Attributes.{Attributes}
-use Rattle.law_full.specs.pg_names.Names.{or_blank, own_at}
-use Rattle.law_full.specs.pg_register.declared.flag.Flag.{Flag}
-use Rattle.law_full.specs.pg_register.Flag.{flag_of, is_older, is_raised, is_raised_with}
-use Rattle.law_full.specs.pg_pieces.Golds.{flags_of, is_gold}
-use Rattle.law_full.specs.pg_store.declared.store.Store.{Store}
-use Rattle.law_full.specs.pg_store.Births.{birth_of}
-use Rattle.law_full.specs.pg_store.Store.{replica_at}
-use Rattle.law_full.specs.pg_store.Together.{IsOver, birth_at}
-use Rattle.law_full.specs.theory_flood_pieces.Whole.{IsWhole}
+use Rattle.pg_run.specs.pg_base.declared.id.FileId.{FileId}
+use Rattle.pg_run.specs.pg_event.declared.event.Event.{Event}
+use Rattle.pg_run.specs.pg_names.declared.attributes.Attributes.{Attributes}
+use Rattle.pg_run.specs.pg_names.Names.{or_blank, own_at}
+use Rattle.pg_run.specs.pg_register.declared.flag.Flag.{Flag}
+use Rattle.pg_run.specs.pg_register.Flag.{flag_of, is_older, is_raised, is_raised_with}
+use Rattle.pg_run.specs.pg_pieces.Golds.{flags_of, is_gold}
+use Rattle.pg_run.specs.pg_store.declared.store.Store.{Store}
+use Rattle.pg_run.specs.pg_store.Births.{birth_of}
+use Rattle.pg_run.specs.pg_store.Store.{replica_at}
+use Rattle.pg_run.specs.pg_store.Together.{IsOver, birth_at}
+use Rattle.pg_run.specs.theory_flood_pieces.Whole.{IsWhole}
 use Rattle.law_golds.proofs.law_births.Has.{born_of, tests_so}
 use Rattle.law_golds.proofs.law_births.Here.{birth_is}
 use Rattle.law_full.proofs.Clean.{among_of}
-use Rattle.law_full.specs.pg_run.Births.{IsBirthAt, WasGivenOut}
-use Rattle.law_full.specs.pg_run.Known.{IsFlagOf, IsOwnFlag, IsUpToOwn}
-use Rattle.law_full.specs.pg_run.Run.{World, run}
-use Rattle.law_full.proofs.pg_run.Found.{flag_found}
-use Rattle.law_full.proofs.pg_run.Frame.{live_is}
-use Rattle.law_full.proofs.pg_run.Lists.{among_contained}
+use Rattle.pg_run.specs.Births.{IsBirthAt, WasGivenOut}
+use Rattle.pg_run.specs.Known.{IsFlagOf, IsOwnFlag, IsUpToOwn}
+use Rattle.pg_run.specs.Run.{World, run}
+use Rattle.pg_run.proofs.Found.{flag_found}
+use Rattle.pg_run.proofs.Frame.{live_is}
+use Rattle.pg_run.proofs.Lists.{among_contained}
 use Rattle.law_repair.specs.Given.{StandOn}
 use Rattle.law_repair.specs.Kept.{IsGoldAt}
 

@@ -4,33 +4,33 @@ use Rattle.std.proofs.Common.{ℕ, ◌≡◌, ◌≢◌, ◌==◌, not, Bool, tr
 use Rattle.std.specs.Prelude.{Contains}
 use Rattle.std.specs.List.{IsAmong}
 use Rattle.std.proofs.lemmas.Bool.{and_from, and_parts, eqb-true, eqb-false, false≢true}
-use Rattle.law_full.specs.pg_base.declared.id.FileId.{FileId}
-use Rattle.law_full.specs.pg_edges.declared.edge.Edge.{Edge}
-use Rattle.law_full.specs.pg_event.declared.event.Event.{Event}
-use Rattle.law_full.specs.pg_intent.declared.intent.Intent.{Intent}
-use Rattle.law_full.specs.pg_intent.declared.key.IntentKey.{IntentKey}
-use Rattle.law_full.specs.pg_intent.declared.key.IntentKey.TheVariants as key
-use Rattle.law_full.specs.pg_intent.Intents.{stands}
-use Rattle.law_full.specs.pg_names.declared.attributes.Attributes.{Attributes}
-use Rattle.law_full.specs.pg_names.Names.{InodeValue, is_full_of, known, or_blank, own_at, own_of, own_or_blank}
-use Rattle.law_full.specs.pg_register.declared.flag.Flag.{Flag}
-use Rattle.law_full.specs.pg_register.Flag.{IsByServer, flag_of, is_raised, is_removed}
-use Rattle.law_full.specs.pg_replica.declared.replica.Replica.{Replica}
-use Rattle.law_full.specs.pg_store.declared.store.Store.{Store}
-use Rattle.law_full.specs.pg_store.Seen.{removed_of, server_of}
-use Rattle.law_full.specs.pg_store.Store.{is_full, replica_at}
-use Rattle.law_full.specs.theory_flood_pieces.Whole.{IsWhole}
+use Rattle.pg_run.specs.pg_base.declared.id.FileId.{FileId}
+use Rattle.pg_run.specs.pg_edges.declared.edge.Edge.{Edge}
+use Rattle.pg_run.specs.pg_event.declared.event.Event.{Event}
+use Rattle.pg_run.specs.pg_intent.declared.intent.Intent.{Intent}
+use Rattle.pg_run.specs.pg_intent.declared.key.IntentKey.{IntentKey}
+use Rattle.pg_run.specs.pg_intent.declared.key.IntentKey.TheVariants as key
+use Rattle.pg_run.specs.pg_intent.Intents.{stands}
+use Rattle.pg_run.specs.pg_names.declared.attributes.Attributes.{Attributes}
+use Rattle.pg_run.specs.pg_names.Names.{InodeValue, is_full_of, known, or_blank, own_at, own_of, own_or_blank}
+use Rattle.pg_run.specs.pg_register.declared.flag.Flag.{Flag}
+use Rattle.pg_run.specs.pg_register.Flag.{IsByServer, flag_of, is_raised, is_removed}
+use Rattle.pg_run.specs.pg_replica.declared.replica.Replica.{Replica}
+use Rattle.pg_run.specs.pg_store.declared.store.Store.{Store}
+use Rattle.pg_run.specs.pg_store.Seen.{removed_of, server_of}
+use Rattle.pg_run.specs.pg_store.Store.{is_full, replica_at}
+use Rattle.pg_run.specs.theory_flood_pieces.Whole.{IsWhole}
 use Rattle.law_quiet.proofs.Agreement.{own_by}
 use Rattle.law_golds.proofs.Flags.{one_raised, raised_one}
 use Rattle.law_full.proofs.Clean.{among_of}
-use Rattle.law_full.specs.pg_run.Golds.{IsGold, IsLiveGold, NamesGolds, Seeks}
-use Rattle.law_full.specs.pg_run.Graphs.{HasEdge, Holds, IsConnected}
-use Rattle.law_full.specs.pg_run.Intending.{IntendsInOrder}
-use Rattle.law_full.specs.pg_run.Quiet.{IsQuiet}
-use Rattle.law_full.specs.pg_run.Run.{World, is_live, run}
-use Rattle.law_full.proofs.pg_run.Found.{flag_found}
-use Rattle.law_full.proofs.pg_run.Frame.{live_is}
-use Rattle.law_full.proofs.pg_run.Lists.{among_contained, contained_among}
+use Rattle.pg_run.specs.Golds.{IsGold, IsLiveGold, NamesGolds, Seeks}
+use Rattle.pg_run.specs.Graphs.{HasEdge, Holds, IsConnected}
+use Rattle.pg_run.specs.Intending.{IntendsInOrder}
+use Rattle.pg_run.specs.Quiet.{IsQuiet}
+use Rattle.pg_run.specs.Run.{World, is_live, run}
+use Rattle.pg_run.proofs.Found.{flag_found}
+use Rattle.pg_run.proofs.Frame.{live_is}
+use Rattle.pg_run.proofs.Lists.{among_contained, contained_among}
 use Rattle.law_repair.specs.Given.{StandOn}
 use Rattle.law_repair.specs.Kept.{IsGoldAt}
 use Rattle.law_repair.proofs.Chains.{AreOne, back, further, one}

@@ -4,41 +4,41 @@ use Rattle.std.specs.Prelude.{Contains}
 use Rattle.std.proofs.lemmas.Bool.{false≢true}
 use Rattle.std.proofs.lemmas.List.Elements.{All-contains}
 use Rattle.std.proofs.lemmas.Option.{same_Some}
-use Rattle.law_full.specs.pg_base.declared.id.FileId.{FileId}
-use Rattle.law_full.specs.pg_base.declared.id.Kind.{Kind}
-use Rattle.law_full.specs.pg_call.declared.call.Call.TheVariants as call
-use Rattle.law_full.specs.pg_calls.Naming.{next_id}
-use Rattle.law_full.proofs.pg_calls.Walked.{full_held}
-use Rattle.law_full.specs.pg_edges.declared.key.Key.TheVariants as key
-use Rattle.law_full.specs.pg_entries.declared.cell.Cell.TheVariants as cell
-use Rattle.law_full.specs.pg_event.declared.event.Event.{Event}
-use Rattle.law_full.specs.pg_msg.declared.message.Ends.{Ends}
-use Rattle.law_full.specs.pg_msg.declared.message.Message.TheVariants as message
-use Rattle.law_full.specs.pg_msg.declared.message.Sent.{Sent}
-use Rattle.law_full.specs.pg_msg.declared.update.Update.TheVariants as update
-use Rattle.law_full.specs.pg_register.declared.flag.Flag.{Flag}
-use Rattle.law_full.specs.pg_register.Flag.{is_older}
-use Rattle.law_full.specs.pg_replica.declared.replica.Replica.{Replica}
-use Rattle.law_full.specs.pg_pieces.Golds.{is_gold}
-use Rattle.law_full.specs.pg_server.declared.input.Input.{Input}
-use Rattle.law_full.specs.pg_server.Local.{effect, first_effect}
-use Rattle.law_full.specs.pg_store.declared.store.Store.{Store}
-use Rattle.law_full.specs.pg_store.Cells.{flag_cell}
-use Rattle.law_full.specs.pg_store.Store.{is_full}
-use Rattle.law_full.specs.pg_store.Together.{BirthsMove, IsOver, birth_at}
-use Rattle.law_full.proofs.pg_store.Over.{moves_then, over_stays}
-use Rattle.law_full.specs.theory_flood_pieces.Growing.{Grows}
-use Rattle.law_full.specs.theory_flood_pieces.UpTo.{IsFlagKnownBy}
-use Rattle.law_full.specs.theory_flood_pieces.Whole.{IsWhole}
+use Rattle.pg_run.specs.pg_base.declared.id.FileId.{FileId}
+use Rattle.pg_run.specs.pg_base.declared.id.Kind.{Kind}
+use Rattle.pg_run.specs.pg_call.declared.call.Call.TheVariants as call
+use Rattle.pg_run.specs.pg_calls.Naming.{next_id}
+use Rattle.pg_run.proofs.pg_calls.Walked.{full_held}
+use Rattle.pg_run.specs.pg_edges.declared.key.Key.TheVariants as key
+use Rattle.pg_run.specs.pg_entries.declared.cell.Cell.TheVariants as cell
+use Rattle.pg_run.specs.pg_event.declared.event.Event.{Event}
+use Rattle.pg_run.specs.pg_msg.declared.message.Ends.{Ends}
+use Rattle.pg_run.specs.pg_msg.declared.message.Message.TheVariants as message
+use Rattle.pg_run.specs.pg_msg.declared.message.Sent.{Sent}
+use Rattle.pg_run.specs.pg_msg.declared.update.Update.TheVariants as update
+use Rattle.pg_run.specs.pg_register.declared.flag.Flag.{Flag}
+use Rattle.pg_run.specs.pg_register.Flag.{is_older}
+use Rattle.pg_run.specs.pg_replica.declared.replica.Replica.{Replica}
+use Rattle.pg_run.specs.pg_pieces.Golds.{is_gold}
+use Rattle.pg_run.specs.pg_server.declared.input.Input.{Input}
+use Rattle.pg_run.specs.pg_server.Local.{effect, first_effect}
+use Rattle.pg_run.specs.pg_store.declared.store.Store.{Store}
+use Rattle.pg_run.specs.pg_store.Cells.{flag_cell}
+use Rattle.pg_run.specs.pg_store.Store.{is_full}
+use Rattle.pg_run.specs.pg_store.Together.{BirthsMove, IsOver, birth_at}
+use Rattle.pg_run.proofs.pg_store.Over.{moves_then, over_stays}
+use Rattle.pg_run.specs.theory_flood_pieces.Growing.{Grows}
+use Rattle.pg_run.specs.theory_flood_pieces.UpTo.{IsFlagKnownBy}
+use Rattle.pg_run.specs.theory_flood_pieces.Whole.{IsWhole}
 use Rattle.law_golds.proofs.law_births.Here.{birth_of_held}
 use Rattle.law_full.specs.Filled.{SaysFull}
 use Rattle.law_golds.specs.law_order.Named.{IsMade}
-use Rattle.law_full.specs.pg_run.Acknowledged.{IsHadThere}
-use Rattle.law_full.specs.pg_run.Journal.{mail}
-use Rattle.law_full.specs.pg_run.Laws.{TakesIn}
-use Rattle.law_full.specs.pg_run.Run.{World, is_live, run}
-use Rattle.law_full.proofs.pg_run.Frame.{HasCome, live_is}
-use Rattle.law_full.proofs.pg_run.Lists.{among_contained, among_parts, contained_among}
+use Rattle.pg_run.specs.Acknowledged.{IsHadThere}
+use Rattle.pg_run.specs.Journal.{mail}
+use Rattle.pg_run.specs.Laws.{TakesIn}
+use Rattle.pg_run.specs.Run.{World, is_live, run}
+use Rattle.pg_run.proofs.Frame.{HasCome, live_is}
+use Rattle.pg_run.proofs.Lists.{among_contained, among_parts, contained_among}
 use Rattle.law_repair.specs.Facts.{ForgetsIt, IsCleanEdge, MakesIt, TellsFull}
 use Rattle.law_repair.specs.Given.{StandOn}
 use Rattle.law_repair.specs.Kept.{Forgets, IsGoldAt}

@@ -3,72 +3,72 @@ use Rattle.std.proofs.Common.{ℕ, ◌≡◌, ◌==◌, ◌&&◌, not, Bool, tru
 use Rattle.std.specs.List.{flat_map}
 use Rattle.std.proofs.lemmas.Bool.{and_parts, false≢true, not-true}
 use Rattle.std.proofs.lemmas.List.Elements.{All-append, All-nil}
-use Rattle.law_full.specs.pg_base.declared.id.FileId.{FileId}
-use Rattle.law_full.specs.pg_base.declared.id.Kind.{Kind}
-use Rattle.law_full.specs.pg_base.declared.id.Kind.TheVariants.{Dir, File}
-use Rattle.law_full.specs.pg_base.declared.policy.Policy.{Policy}
-use Rattle.law_full.specs.pg_base.declared.policy.Policy.TheVariants.{Last}
-use Rattle.law_full.specs.pg_base.Id.{is_same_file}
-use Rattle.law_full.proofs.pg_base.Orders.{is_same_file-true}
-use Rattle.law_full.specs.pg_call.declared.call.Call.{Call}
-use Rattle.law_full.specs.pg_call.declared.call.Call.TheVariants as call
-use Rattle.law_full.specs.pg_call.declared.call.Target.{Target}
-use Rattle.law_full.specs.pg_call.declared.refusal.Refusal.TheVariants.{Held}
-use Rattle.law_full.specs.pg_call.declared.reply.Reply.{Reply}
-use Rattle.law_full.specs.pg_msg.declared.message.Ends.{Ends}
-use Rattle.law_full.specs.pg_msg.declared.message.Message.{Message}
-use Rattle.law_full.specs.pg_msg.declared.message.Message.TheVariants as message
-use Rattle.law_full.specs.pg_msg.declared.update.Update.TheVariants as update
-use Rattle.law_full.specs.pg_msg.declared.work.Work.{Work}
-use Rattle.law_full.specs.pg_msg.Work.{new_work, with_made}
-use Rattle.law_full.specs.pg_names.Names.{blank_own, fill as fill_names, is_dir}
-use Rattle.law_full.specs.pg_patch.Ranges.{RangesValue, cut_to, written}
-use Rattle.law_full.specs.pg_register.declared.flag.Flag.{Flag}
-use Rattle.law_full.specs.pg_register.declared.place.Place.{Place}
-use Rattle.law_full.specs.pg_calls.Bodies.{change, change_file, when_fit}
-use Rattle.law_full.specs.pg_calls.Calls.{do_call}
-use Rattle.law_full.specs.pg_calls.Demoting.{demoted_at, lowered}
-use Rattle.law_full.specs.pg_calls.Dropping.{clean_gold, dropped_at, leave_of, leaving}
-use Rattle.law_full.specs.pg_calls.Forgetting.{begin_lost, begun_at, begun_with, dead_at, dirs_of, fill_lost, forget_lost, has_blank_place, is_wanted, last_listing, last_place, lost_at, placed_in_root, placed_lost, root_place, strike_out, struck_out, unless_full, unwished}
-use Rattle.law_full.specs.pg_calls.GivingUp.{enter_view, removal_at}
-use Rattle.law_full.specs.pg_calls.Making.{drawn, first_ranges, make_place}
-use Rattle.law_full.specs.pg_calls.Naming.{begun, dead_place, next_id, place_in, raised, with_id, with_thing}
-use Rattle.law_full.proofs.pg_calls.Checked.{behind, unless_ok}
-use Rattle.law_full.specs.pg_checks.declared.checks.NewName.{NewName}
-use Rattle.law_full.specs.pg_checks.Answer.{Answer, answered, replied, told}
-use Rattle.law_full.specs.pg_checks.Asking.{ask_by, ask_first, fetch, fresh_wish, holder, standing}
-use Rattle.law_full.specs.pg_checks.Checks.{dir_at, empty_dir_at, file_at, in_time, move_of, new_name, target_at}
-use Rattle.law_full.specs.pg_lookup.declared.paths.Found.{Found}
-use Rattle.law_full.specs.pg_lookup.declared.paths.LookupError.{LookupError}
-use Rattle.law_full.specs.pg_lookup.declared.paths.LookupError.TheVariants as stop
-use Rattle.law_full.specs.pg_pieces.declared.accepting.EdgeUse.TheVariants as manner
-use Rattle.law_full.specs.pg_pieces.Accepting.{accept, is_accepted, with_gone}
-use Rattle.law_full.specs.pg_pieces.Done.{Done, idle}
-use Rattle.law_full.specs.pg_pieces.Golds.{is_gold}
-use Rattle.law_full.specs.pg_pieces.Intending.{begin_intent}
-use Rattle.law_full.specs.pg_pieces.Making.{lower_flag, own_next}
-use Rattle.law_full.specs.pg_pieces.Posting.{post}
-use Rattle.law_full.specs.pg_cells.Sending.{cells_where, is_any}
-use Rattle.law_full.specs.pg_cells.Ticks.{tick}
-use Rattle.law_full.specs.pg_repair.Filling.{fill, full, invite, invited, is_bronze, raise_if_few}
-use Rattle.law_full.specs.pg_intentions.Requests.{ask_all, asks}
-use Rattle.law_full.specs.pg_server.declared.input.Input.{Input}
-use Rattle.law_full.specs.pg_server.declared.input.Input.TheVariants as input
-use Rattle.law_full.specs.pg_server.Local.{first_effect, is_heard, receive, ticked, without_sources}
-use Rattle.law_full.specs.pg_store.declared.store.Store.{Store}
-use Rattle.law_full.specs.pg_store.declared.wishes.Wish.{Wish}
-use Rattle.law_full.specs.pg_store.Births.{has_birth, with_birth, with_wish}
-use Rattle.law_full.specs.pg_store.Links.{knows_later}
-use Rattle.law_full.specs.pg_store.Store.{is_full, is_held, is_before_clock_end, with_names}
-use Rattle.law_full.proofs.theory_flood_pieces.Choices.{chosen, decided}
+use Rattle.pg_run.specs.pg_base.declared.id.FileId.{FileId}
+use Rattle.pg_run.specs.pg_base.declared.id.Kind.{Kind}
+use Rattle.pg_run.specs.pg_base.declared.id.Kind.TheVariants.{Dir, File}
+use Rattle.pg_run.specs.pg_base.declared.policy.Policy.{Policy}
+use Rattle.pg_run.specs.pg_base.declared.policy.Policy.TheVariants.{Last}
+use Rattle.pg_run.specs.pg_base.Id.{is_same_file}
+use Rattle.pg_run.proofs.pg_base.Orders.{is_same_file-true}
+use Rattle.pg_run.specs.pg_call.declared.call.Call.{Call}
+use Rattle.pg_run.specs.pg_call.declared.call.Call.TheVariants as call
+use Rattle.pg_run.specs.pg_call.declared.call.Target.{Target}
+use Rattle.pg_run.specs.pg_call.declared.refusal.Refusal.TheVariants.{Held}
+use Rattle.pg_run.specs.pg_call.declared.reply.Reply.{Reply}
+use Rattle.pg_run.specs.pg_msg.declared.message.Ends.{Ends}
+use Rattle.pg_run.specs.pg_msg.declared.message.Message.{Message}
+use Rattle.pg_run.specs.pg_msg.declared.message.Message.TheVariants as message
+use Rattle.pg_run.specs.pg_msg.declared.update.Update.TheVariants as update
+use Rattle.pg_run.specs.pg_msg.declared.work.Work.{Work}
+use Rattle.pg_run.specs.pg_msg.Work.{new_work, with_made}
+use Rattle.pg_run.specs.pg_names.Names.{blank_own, fill as fill_names, is_dir}
+use Rattle.pg_run.specs.pg_patch.Ranges.{RangesValue, cut_to, written}
+use Rattle.pg_run.specs.pg_register.declared.flag.Flag.{Flag}
+use Rattle.pg_run.specs.pg_register.declared.place.Place.{Place}
+use Rattle.pg_run.specs.pg_calls.Bodies.{change, change_file, when_fit}
+use Rattle.pg_run.specs.pg_calls.Calls.{do_call}
+use Rattle.pg_run.specs.pg_calls.Demoting.{demoted_at, lowered}
+use Rattle.pg_run.specs.pg_calls.Dropping.{clean_gold, dropped_at, leave_of, leaving}
+use Rattle.pg_run.specs.pg_calls.Forgetting.{begin_lost, begun_at, begun_with, dead_at, dirs_of, fill_lost, forget_lost, has_blank_place, is_wanted, last_listing, last_place, lost_at, placed_in_root, placed_lost, root_place, strike_out, struck_out, unless_full, unwished}
+use Rattle.pg_run.specs.pg_calls.GivingUp.{enter_view, removal_at}
+use Rattle.pg_run.specs.pg_calls.Making.{drawn, first_ranges, make_place}
+use Rattle.pg_run.specs.pg_calls.Naming.{begun, dead_place, next_id, place_in, raised, with_id, with_thing}
+use Rattle.pg_run.proofs.pg_calls.Checked.{behind, unless_ok}
+use Rattle.pg_run.specs.pg_checks.declared.checks.NewName.{NewName}
+use Rattle.pg_run.specs.pg_checks.Answer.{Answer, answered, replied, told}
+use Rattle.pg_run.specs.pg_checks.Asking.{ask_by, ask_first, fetch, fresh_wish, holder, standing}
+use Rattle.pg_run.specs.pg_checks.Checks.{dir_at, empty_dir_at, file_at, in_time, move_of, new_name, target_at}
+use Rattle.pg_run.specs.pg_lookup.declared.paths.Found.{Found}
+use Rattle.pg_run.specs.pg_lookup.declared.paths.LookupError.{LookupError}
+use Rattle.pg_run.specs.pg_lookup.declared.paths.LookupError.TheVariants as stop
+use Rattle.pg_run.specs.pg_pieces.declared.accepting.EdgeUse.TheVariants as manner
+use Rattle.pg_run.specs.pg_pieces.Accepting.{accept, is_accepted, with_gone}
+use Rattle.pg_run.specs.pg_pieces.Done.{Done, idle}
+use Rattle.pg_run.specs.pg_pieces.Golds.{is_gold}
+use Rattle.pg_run.specs.pg_pieces.Intending.{begin_intent}
+use Rattle.pg_run.specs.pg_pieces.Making.{lower_flag, own_next}
+use Rattle.pg_run.specs.pg_pieces.Posting.{post}
+use Rattle.pg_run.specs.pg_cells.Sending.{cells_where, is_any}
+use Rattle.pg_run.specs.pg_cells.Ticks.{tick}
+use Rattle.pg_run.specs.pg_repair.Filling.{fill, full, invite, invited, is_bronze, raise_if_few}
+use Rattle.pg_run.specs.pg_intentions.Requests.{ask_all, asks}
+use Rattle.pg_run.specs.pg_server.declared.input.Input.{Input}
+use Rattle.pg_run.specs.pg_server.declared.input.Input.TheVariants as input
+use Rattle.pg_run.specs.pg_server.Local.{first_effect, is_heard, receive, ticked, without_sources}
+use Rattle.pg_run.specs.pg_store.declared.store.Store.{Store}
+use Rattle.pg_run.specs.pg_store.declared.wishes.Wish.{Wish}
+use Rattle.pg_run.specs.pg_store.Births.{has_birth, with_birth, with_wish}
+use Rattle.pg_run.specs.pg_store.Links.{knows_later}
+use Rattle.pg_run.specs.pg_store.Store.{is_full, is_held, is_before_clock_end, with_names}
+use Rattle.pg_run.proofs.theory_flood_pieces.Choices.{chosen, decided}
 use Rattle.law_golds.specs.law_births.Flags.{AnyBye, SaysMessage, SaysStore}
 use Rattle.law_golds.proofs.Effects.{SaysPacket}
 use Rattle.law_golds.proofs.Losing.{entered_says}
 use Rattle.law_golds.proofs.Received.{said_begun_intent, said_received, said_walk_of_tick}
 use Rattle.law_golds.proofs.Says.{Says, SaysSent, said_asked}
 use Rattle.law_golds.proofs.Sending.{asks_all, cells_say}
-use Rattle.law_full.proofs.pg_run.Event.{Comes}
-use Rattle.law_full.proofs.pg_calls.Walked.{full_held}
+use Rattle.pg_run.proofs.Event.{Comes}
+use Rattle.pg_run.proofs.pg_calls.Walked.{full_held}
 use Rattle.law_repair.proofs.Unflagged.{NoneOf, Of, few_none, flag_none, marks_none, none_both, none_nil, none_place, place_none, raise_none, none_same, version_none}
 
 -- ---- a full gold thing at a server

@@ -2,21 +2,21 @@
 -- one word, which is computed in one walk over the events of a run.
 use Rattle.std.proofs.Common.{ℕ, ◌≡◌, ◌&&◌, not, Bool, true, false, List, [], ◌∷◌, Option, None, Some, is_some, refl, sym, ap, ◌∙◌, inl, inr}
 use Rattle.std.proofs.lemmas.Bool.{and_parts, false≢true, not-true}
-use Rattle.law_full.specs.pg_base.declared.id.FileId.{FileId}
-use Rattle.law_full.specs.pg_base.declared.id.Kind.TheVariants.{Dir}
-use Rattle.law_full.specs.pg_base.Id.{is_same_file}
-use Rattle.law_full.specs.pg_edges.declared.edge.Edge.{Edge}
-use Rattle.law_full.specs.pg_edges.Edges.{is_listed}
-use Rattle.law_full.specs.pg_event.declared.event.Event.{Event}
-use Rattle.law_full.specs.pg_names.declared.attributes.Attributes.{Attributes}
-use Rattle.law_full.specs.pg_names.Names.{own_at}
-use Rattle.law_full.specs.pg_patch.Ranges.{applied}
-use Rattle.law_full.specs.pg_replica.declared.replica.Replica.{Replica}
-use Rattle.law_full.specs.pg_store.Store.{replica_at}
-use Rattle.law_full.specs.pg_run.Graphs.{HasEdge, Holds, IsChain, IsConnected}
-use Rattle.law_full.specs.pg_run.Quiet.{IsQuiet, quiet_of}
-use Rattle.law_full.specs.pg_run.Run.{World, is_live, run}
-use Rattle.law_full.proofs.pg_run.QuietAnswers.{quiet_is_told}
+use Rattle.pg_run.specs.pg_base.declared.id.FileId.{FileId}
+use Rattle.pg_run.specs.pg_base.declared.id.Kind.TheVariants.{Dir}
+use Rattle.pg_run.specs.pg_base.Id.{is_same_file}
+use Rattle.pg_run.specs.pg_edges.declared.edge.Edge.{Edge}
+use Rattle.pg_run.specs.pg_edges.Edges.{is_listed}
+use Rattle.pg_run.specs.pg_event.declared.event.Event.{Event}
+use Rattle.pg_run.specs.pg_names.declared.attributes.Attributes.{Attributes}
+use Rattle.pg_run.specs.pg_names.Names.{own_at}
+use Rattle.pg_run.specs.pg_patch.Ranges.{applied}
+use Rattle.pg_run.specs.pg_replica.declared.replica.Replica.{Replica}
+use Rattle.pg_run.specs.pg_store.Store.{replica_at}
+use Rattle.pg_run.specs.Graphs.{HasEdge, Holds, IsChain, IsConnected}
+use Rattle.pg_run.specs.Quiet.{IsQuiet, quiet_of}
+use Rattle.pg_run.specs.Run.{World, is_live, run}
+use Rattle.pg_run.proofs.QuietAnswers.{quiet_is_told}
 use Rattle.law_repair.specs.Witness.{ArePartedBy, LossParts, moved, parting}
 use Rattle.law_repair.proofs.Unkept.{quiet_by, waits}
 

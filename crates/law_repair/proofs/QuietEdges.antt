@@ -6,35 +6,35 @@ use Rattle.std.proofs.lemmas.Bool.{and_from, eqb-true, false≢true}
 use Rattle.std.proofs.lemmas.Bool.Decides.{nat_tests}
 use Rattle.std.proofs.lemmas.List.{take_all}
 use Rattle.std.proofs.lemmas.List.Elements.{All-cons, All-nil, All-weaker}
-use Rattle.law_full.specs.pg_base.declared.id.FileId.{FileId}
-use Rattle.law_full.specs.pg_edges.declared.edge.Edge.{Edge}
-use Rattle.law_full.specs.pg_edges.declared.key.Key.{Key}
-use Rattle.law_full.specs.pg_edges.declared.key.Key.TheVariants as key
-use Rattle.law_full.specs.pg_edges.Edges.{edge_to, is_listed, keys_if_born}
-use Rattle.law_full.specs.pg_edges.Keys.{tag_in}
-use Rattle.law_full.specs.pg_entries.declared.cell.Cell.TheVariants as cell
-use Rattle.law_full.specs.pg_event.declared.event.Event.{Event}
-use Rattle.law_full.specs.pg_event.declared.quiet.Owing.TheVariants as owing
-use Rattle.law_full.specs.pg_intent.declared.intent.Intent.TheVariants as intent
-use Rattle.law_full.specs.pg_names.Names.{own_or_blank}
-use Rattle.law_full.specs.pg_register.Flag.{is_removed}
-use Rattle.law_full.specs.pg_replica.declared.replica.Replica.{Replica}
-use Rattle.law_full.specs.pg_server.Owing.{edge_owes, owed, owed_keys, replica_owes}
-use Rattle.law_full.specs.pg_store.declared.store.Store.{Store}
-use Rattle.law_full.specs.pg_store.Seen.{removed_of, server_of, view_of}
-use Rattle.law_full.specs.pg_store.Store.{replica_at}
-use Rattle.law_full.specs.theory_flood_pieces.Whole.{AreEdges, IsEdge, IsOther, IsWhole}
-use Rattle.law_full.proofs.theory_flood_pieces.Choices.{found_replica}
-use Rattle.law_full.proofs.theory_flood_pieces.Found.{edges_found}
+use Rattle.pg_run.specs.pg_base.declared.id.FileId.{FileId}
+use Rattle.pg_run.specs.pg_edges.declared.edge.Edge.{Edge}
+use Rattle.pg_run.specs.pg_edges.declared.key.Key.{Key}
+use Rattle.pg_run.specs.pg_edges.declared.key.Key.TheVariants as key
+use Rattle.pg_run.specs.pg_edges.Edges.{edge_to, is_listed, keys_if_born}
+use Rattle.pg_run.specs.pg_edges.Keys.{tag_in}
+use Rattle.pg_run.specs.pg_entries.declared.cell.Cell.TheVariants as cell
+use Rattle.pg_run.specs.pg_event.declared.event.Event.{Event}
+use Rattle.pg_run.specs.pg_event.declared.quiet.Owing.TheVariants as owing
+use Rattle.pg_run.specs.pg_intent.declared.intent.Intent.TheVariants as intent
+use Rattle.pg_run.specs.pg_names.Names.{own_or_blank}
+use Rattle.pg_run.specs.pg_register.Flag.{is_removed}
+use Rattle.pg_run.specs.pg_replica.declared.replica.Replica.{Replica}
+use Rattle.pg_run.specs.pg_server.Owing.{edge_owes, owed, owed_keys, replica_owes}
+use Rattle.pg_run.specs.pg_store.declared.store.Store.{Store}
+use Rattle.pg_run.specs.pg_store.Seen.{removed_of, server_of, view_of}
+use Rattle.pg_run.specs.pg_store.Store.{replica_at}
+use Rattle.pg_run.specs.theory_flood_pieces.Whole.{AreEdges, IsEdge, IsOther, IsWhole}
+use Rattle.pg_run.proofs.theory_flood_pieces.Choices.{found_replica}
+use Rattle.pg_run.proofs.theory_flood_pieces.Found.{edges_found}
 use Rattle.law_leaving.proofs.Lists.{member_at}
 use Rattle.law_quiet.proofs.Across.{nothing_intended}
-use Rattle.law_full.specs.pg_run.Graphs.{HasEdge}
-use Rattle.law_full.specs.pg_run.Journal.{removals}
-use Rattle.law_full.specs.pg_run.Leaving.{OwesBye}
-use Rattle.law_full.specs.pg_run.Quiet.{IsQuiet}
-use Rattle.law_full.specs.pg_run.Run.{World, is_live, is_server, run}
-use Rattle.law_full.proofs.pg_run.Frame.{live_is}
-use Rattle.law_full.proofs.pg_run.QuietAnswers.{both_empty, map_empty}
+use Rattle.pg_run.specs.Graphs.{HasEdge}
+use Rattle.pg_run.specs.Journal.{removals}
+use Rattle.pg_run.specs.Leaving.{OwesBye}
+use Rattle.pg_run.specs.Quiet.{IsQuiet}
+use Rattle.pg_run.specs.Run.{World, is_live, is_server, run}
+use Rattle.pg_run.proofs.Frame.{live_is}
+use Rattle.pg_run.proofs.QuietAnswers.{both_empty, map_empty}
 use Rattle.law_repair.specs.Given.{StandOn}
 
 -- ---- where nothing is owed, no key stands

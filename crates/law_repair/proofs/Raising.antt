@@ -4,47 +4,47 @@ use Rattle.std.proofs.Common.{ℕ, ◌≡◌, ◌≢◌, ◌<◌, not, Bool, tru
 use Rattle.std.specs.Prelude.{Contains}
 use Rattle.std.proofs.lemmas.Bool.{and_parts, false≢true}
 use Rattle.std.proofs.lemmas.Option.{same_Some}
-use Rattle.law_full.specs.pg_base.declared.id.FileId.{FileId}
-use Rattle.law_full.specs.pg_base.Id.{is_same_file}
-use Rattle.law_full.specs.pg_call.declared.refusal.Refusal.TheVariants.{LastGold, Root}
-use Rattle.law_full.specs.pg_call.declared.reply.Reply.TheVariants.{Done as IsDone}
-use Rattle.law_full.specs.pg_content.Content.{Among}
-use Rattle.law_full.proofs.pg_content.Members.{all_among, any_found}
+use Rattle.pg_run.specs.pg_base.declared.id.FileId.{FileId}
+use Rattle.pg_run.specs.pg_base.Id.{is_same_file}
+use Rattle.pg_run.specs.pg_call.declared.refusal.Refusal.TheVariants.{LastGold, Root}
+use Rattle.pg_run.specs.pg_call.declared.reply.Reply.TheVariants.{Done as IsDone}
+use Rattle.pg_run.specs.pg_content.Content.{Among}
+use Rattle.pg_run.proofs.pg_content.Members.{all_among, any_found}
 use Rattle.law_golds.specs.law_contents.Together.{HoldBoth}
-use Rattle.law_full.specs.pg_entries.declared.entry.Entry.{Entry}
-use Rattle.law_full.specs.pg_event.declared.event.Event.{Event}
-use Rattle.law_full.proofs.theory_flood.Flood.{after_itself}
-use Rattle.law_full.specs.pg_house.Returning.{is_root}
-use Rattle.law_full.specs.pg_msg.declared.message.Sent.{Sent}
-use Rattle.law_full.specs.pg_msg.declared.update.Update.{Update}
-use Rattle.law_full.specs.pg_msg.declared.update.Update.TheVariants as update
-use Rattle.law_full.specs.pg_msg.Work.{new_work}
-use Rattle.law_full.specs.pg_names.declared.attributes.Attributes.{Attributes}
-use Rattle.law_full.specs.pg_names.Names.{cell_at, own_at}
-use Rattle.law_full.specs.pg_register.declared.flag.Flag.{Flag}
-use Rattle.law_full.specs.pg_register.Flag.{is_live, is_older, is_removed}
-use Rattle.law_full.specs.pg_register.Place.{root}
-use Rattle.law_full.specs.pg_calls.Demoting.{has_clean_gold, is_clean_gold, lowered, unless_last, unless_root}
-use Rattle.law_full.proofs.pg_calls.Checked.{behind, unless_ok}
-use Rattle.law_full.proofs.pg_calls.Walked.{full_held}
-use Rattle.law_full.specs.pg_checks.Answer.{answer, answered}
-use Rattle.law_full.specs.pg_checks.Checks.{target_at}
-use Rattle.law_full.specs.pg_lookup.declared.paths.LookupError.{LookupError}
-use Rattle.law_full.specs.pg_lookup.Walk.{and_then}
-use Rattle.law_full.specs.pg_pieces.Done.{Done, idle}
-use Rattle.law_full.specs.pg_pieces.Golds.{flags_of, is_gold}
-use Rattle.law_full.specs.pg_pieces.Making.{lower_flag}
-use Rattle.law_full.specs.pg_server.declared.input.Input.{Input}
-use Rattle.law_full.specs.pg_server.declared.input.Input.TheVariants as input
-use Rattle.law_full.specs.pg_server.Local.{done_of, effect, first_effect}
-use Rattle.law_full.specs.pg_store.declared.store.Store.{Store}
-use Rattle.law_full.specs.pg_store.Links.{is_clean}
-use Rattle.law_full.specs.pg_store.Seen.{removed_of}
-use Rattle.law_full.specs.pg_store.Store.{is_full, replica_at}
-use Rattle.law_full.specs.pg_store.Together.{AreTogether, birth_at}
-use Rattle.law_full.proofs.pg_store.Over.{over_stays}
-use Rattle.law_full.specs.theory_flood_pieces.UpTo.{IsFlagKnownBy}
-use Rattle.law_full.specs.theory_flood_pieces.Whole.{IsWhole}
+use Rattle.pg_run.specs.pg_entries.declared.entry.Entry.{Entry}
+use Rattle.pg_run.specs.pg_event.declared.event.Event.{Event}
+use Rattle.pg_run.proofs.theory_flood.Flood.{after_itself}
+use Rattle.pg_run.specs.pg_house.Returning.{is_root}
+use Rattle.pg_run.specs.pg_msg.declared.message.Sent.{Sent}
+use Rattle.pg_run.specs.pg_msg.declared.update.Update.{Update}
+use Rattle.pg_run.specs.pg_msg.declared.update.Update.TheVariants as update
+use Rattle.pg_run.specs.pg_msg.Work.{new_work}
+use Rattle.pg_run.specs.pg_names.declared.attributes.Attributes.{Attributes}
+use Rattle.pg_run.specs.pg_names.Names.{cell_at, own_at}
+use Rattle.pg_run.specs.pg_register.declared.flag.Flag.{Flag}
+use Rattle.pg_run.specs.pg_register.Flag.{is_live, is_older, is_removed}
+use Rattle.pg_run.specs.pg_register.Place.{root}
+use Rattle.pg_run.specs.pg_calls.Demoting.{has_clean_gold, is_clean_gold, lowered, unless_last, unless_root}
+use Rattle.pg_run.proofs.pg_calls.Checked.{behind, unless_ok}
+use Rattle.pg_run.proofs.pg_calls.Walked.{full_held}
+use Rattle.pg_run.specs.pg_checks.Answer.{answer, answered}
+use Rattle.pg_run.specs.pg_checks.Checks.{target_at}
+use Rattle.pg_run.specs.pg_lookup.declared.paths.LookupError.{LookupError}
+use Rattle.pg_run.specs.pg_lookup.Walk.{and_then}
+use Rattle.pg_run.specs.pg_pieces.Done.{Done, idle}
+use Rattle.pg_run.specs.pg_pieces.Golds.{flags_of, is_gold}
+use Rattle.pg_run.specs.pg_pieces.Making.{lower_flag}
+use Rattle.pg_run.specs.pg_server.declared.input.Input.{Input}
+use Rattle.pg_run.specs.pg_server.declared.input.Input.TheVariants as input
+use Rattle.pg_run.specs.pg_server.Local.{done_of, effect, first_effect}
+use Rattle.pg_run.specs.pg_store.declared.store.Store.{Store}
+use Rattle.pg_run.specs.pg_store.Links.{is_clean}
+use Rattle.pg_run.specs.pg_store.Seen.{removed_of}
+use Rattle.pg_run.specs.pg_store.Store.{is_full, replica_at}
+use Rattle.pg_run.specs.pg_store.Together.{AreTogether, birth_at}
+use Rattle.pg_run.proofs.pg_store.Over.{over_stays}
+use Rattle.pg_run.specs.theory_flood_pieces.UpTo.{IsFlagKnownBy}
+use Rattle.pg_run.specs.theory_flood_pieces.Whole.{IsWhole}
 use Rattle.law_golds.specs.law_births.Flags.{SaysNames}
 use Rattle.law_golds.proofs.law_births.Has.{born_of}
 use Rattle.law_golds.proofs.law_births.Here.{birth_of_held}
@@ -58,17 +58,17 @@ use Rattle.law_golds.proofs.Own.{IsOwn, Stands as IsUpTo}
 use Rattle.law_golds.proofs.Says.{SaysSent}
 use Rattle.law_golds.proofs.Worlds.{AreOwn, own_run}
 use Rattle.law_quiet.specs.Given.{ServersAreWhole}
-use Rattle.law_full.specs.pg_run.Births.{BirthsMoveInEvents, ReplicasStayOrGo}
-use Rattle.law_full.specs.pg_run.Going.{FlagsAreMadeWhereHeld}
-use Rattle.law_full.specs.pg_run.Grown.{EventsGrow}
-use Rattle.law_full.specs.pg_run.Journal.{mail}
-use Rattle.law_full.specs.pg_run.Known.{IsFlagOf}
-use Rattle.law_full.specs.pg_run.Laws.{HouseIsInOrder, TakesIn}
-use Rattle.law_full.specs.pg_run.Run.{Taking, World, run}
-use Rattle.law_full.specs.pg_run.Views.{ViewsArePrefixes}
-use Rattle.law_full.proofs.pg_run.Event.{Comes}
-use Rattle.law_full.proofs.pg_run.Frame.{Acts, HasCome, acts_is}
-use Rattle.law_full.proofs.pg_run.Lists.{contained_among}
+use Rattle.pg_run.specs.Births.{BirthsMoveInEvents, ReplicasStayOrGo}
+use Rattle.pg_run.specs.Going.{FlagsAreMadeWhereHeld}
+use Rattle.pg_run.specs.Grown.{EventsGrow}
+use Rattle.pg_run.specs.Journal.{mail}
+use Rattle.pg_run.specs.Known.{IsFlagOf}
+use Rattle.pg_run.specs.Laws.{HouseIsInOrder, TakesIn}
+use Rattle.pg_run.specs.Run.{Taking, World, run}
+use Rattle.pg_run.specs.Views.{ViewsArePrefixes}
+use Rattle.pg_run.proofs.Event.{Comes}
+use Rattle.pg_run.proofs.Frame.{Acts, HasCome, acts_is}
+use Rattle.pg_run.proofs.Lists.{contained_among}
 use Rattle.law_repair.specs.Facts.{GoldsRaiseNone}
 use Rattle.law_repair.proofs.GoldsThere.{OwnFlag, flag_at, held_not_over, own_flag}
 use Rattle.law_repair.proofs.FlagHad.{grown_by}

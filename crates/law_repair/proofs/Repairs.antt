@@ -1,6 +1,6 @@
 -- The repair theorem, and what stands by it without a premise on graphs.
 use Rattle.std.proofs.Common.{ℕ}
-use Rattle.law_full.specs.pg_run.Laws.{QuietDirectoriesAreBroughtBack, QuietNamesFormATree, QuietServersAgree, QuietThingsAreListedOnlyWhereTheyStand}
+use Rattle.pg_run.specs.Laws.{QuietDirectoriesAreBroughtBack, QuietNamesFormATree, QuietServersAgree, QuietThingsAreListedOnlyWhereTheyStand}
 use Rattle.law_repair.specs.Given.{StandOn}
 use Rattle.law_repair.specs.Kept.{KeptDirectoriesAreBroughtBack, KeptNamesFormATree, KeptRunsAreConnected, KeptServersAgree, KeptThingsAreConnected, KeptThingsAreListedOnlyWhereTheyStand}
 use Rattle.law_repair.proofs.Walking.{repaired}

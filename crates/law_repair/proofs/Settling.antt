@@ -2,45 +2,45 @@
 -- raise none of it.
 use Rattle.std.proofs.Common.{ℕ, ◌≡◌, ◌&&◌, not, Bool, true, false, List, [], ◌∷◌, drop, length, Option, None, Some, is_some, refl, sym, ap, subst, ◌∙◌, inl, inr, ◌⊎◌}
 use Rattle.std.proofs.lemmas.Bool.{and_from, false≢true}
-use Rattle.law_full.specs.pg_base.declared.id.FileId.{FileId}
-use Rattle.law_full.specs.pg_base.Id.{is_same_file}
-use Rattle.law_full.proofs.pg_base.Orders.{is_same_file-refl, is_same_file-true}
-use Rattle.law_full.specs.pg_content.Content.{Among}
-use Rattle.law_full.proofs.pg_content.Members.{any_by}
+use Rattle.pg_run.specs.pg_base.declared.id.FileId.{FileId}
+use Rattle.pg_run.specs.pg_base.Id.{is_same_file}
+use Rattle.pg_run.proofs.pg_base.Orders.{is_same_file-refl, is_same_file-true}
+use Rattle.pg_run.specs.pg_content.Content.{Among}
+use Rattle.pg_run.proofs.pg_content.Members.{any_by}
 use Rattle.law_golds.proofs.law_contents.Rules.{ArePlaces, house_makes}
-use Rattle.law_full.specs.pg_house.House.{house}
-use Rattle.law_full.specs.pg_house.Work.{state_of}
-use Rattle.law_full.proofs.pg_house.Keys.{rules_by}
-use Rattle.law_full.specs.pg_msg.declared.update.Update.{Update}
-use Rattle.law_full.specs.pg_msg.declared.update.Update.TheVariants as update
-use Rattle.law_full.specs.pg_msg.declared.work.Work.{Work}
-use Rattle.law_full.specs.pg_msg.Work.{with_made}
-use Rattle.law_full.specs.pg_names.declared.attributes.Attributes.{Attributes}
-use Rattle.law_full.specs.pg_names.Names.{InodeValue, NamesValue, known, or_blank, own_at, own_of, with_flag}
-use Rattle.law_full.proofs.pg_names.Lookups.{flag_other, update_frame}
-use Rattle.law_full.specs.pg_register.declared.flag.Flag.{Flag}
-use Rattle.law_full.specs.pg_register.Flag.{flag_of, is_live, is_older, is_removed}
-use Rattle.law_full.specs.pg_pieces.Golds.{is_goldless, is_goldless_held, is_of_later, sees_gold}
-use Rattle.law_full.specs.pg_pieces.Making.{own_next, raise_flag}
-use Rattle.law_full.specs.pg_cells.Settling.{rules, settle}
-use Rattle.law_full.proofs.pg_cells.Settled.{settle_keeps}
-use Rattle.law_full.specs.pg_store.declared.store.Store.{Store}
-use Rattle.law_full.specs.pg_store.Births.{birth_of}
-use Rattle.law_full.specs.pg_store.Seen.{removed_of, server_of}
-use Rattle.law_full.specs.pg_store.Store.{is_newer_flag, put_flag, take_flag, with_names}
-use Rattle.law_full.specs.theory_flood_pieces.UpTo.{IsFlagKnownBy}
-use Rattle.law_full.specs.theory_flood_pieces.Whole.{IsWhole}
-use Rattle.law_full.proofs.theory_flood_pieces.Choices.{chosen}
-use Rattle.law_full.proofs.theory_flood_pieces.Grown.{grown_by_steps}
-use Rattle.law_full.proofs.theory_flood_pieces.Settling.{rules_steps, whole_raised, whole_rules}
-use Rattle.law_full.proofs.theory_flood_pieces.Touching.{same_names}
+use Rattle.pg_run.specs.pg_house.House.{house}
+use Rattle.pg_run.specs.pg_house.Work.{state_of}
+use Rattle.pg_run.proofs.pg_house.Keys.{rules_by}
+use Rattle.pg_run.specs.pg_msg.declared.update.Update.{Update}
+use Rattle.pg_run.specs.pg_msg.declared.update.Update.TheVariants as update
+use Rattle.pg_run.specs.pg_msg.declared.work.Work.{Work}
+use Rattle.pg_run.specs.pg_msg.Work.{with_made}
+use Rattle.pg_run.specs.pg_names.declared.attributes.Attributes.{Attributes}
+use Rattle.pg_run.specs.pg_names.Names.{InodeValue, NamesValue, known, or_blank, own_at, own_of, with_flag}
+use Rattle.pg_run.proofs.pg_names.Lookups.{flag_other, update_frame}
+use Rattle.pg_run.specs.pg_register.declared.flag.Flag.{Flag}
+use Rattle.pg_run.specs.pg_register.Flag.{flag_of, is_live, is_older, is_removed}
+use Rattle.pg_run.specs.pg_pieces.Golds.{is_goldless, is_goldless_held, is_of_later, sees_gold}
+use Rattle.pg_run.specs.pg_pieces.Making.{own_next, raise_flag}
+use Rattle.pg_run.specs.pg_cells.Settling.{rules, settle}
+use Rattle.pg_run.proofs.pg_cells.Settled.{settle_keeps}
+use Rattle.pg_run.specs.pg_store.declared.store.Store.{Store}
+use Rattle.pg_run.specs.pg_store.Births.{birth_of}
+use Rattle.pg_run.specs.pg_store.Seen.{removed_of, server_of}
+use Rattle.pg_run.specs.pg_store.Store.{is_newer_flag, put_flag, take_flag, with_names}
+use Rattle.pg_run.specs.theory_flood_pieces.UpTo.{IsFlagKnownBy}
+use Rattle.pg_run.specs.theory_flood_pieces.Whole.{IsWhole}
+use Rattle.pg_run.proofs.theory_flood_pieces.Choices.{chosen}
+use Rattle.pg_run.proofs.theory_flood_pieces.Grown.{grown_by_steps}
+use Rattle.pg_run.proofs.theory_flood_pieces.Settling.{rules_steps, whole_raised, whole_rules}
+use Rattle.pg_run.proofs.theory_flood_pieces.Touching.{same_names}
 use Rattle.law_golds.specs.law_births.Flags.{SaysNames}
 use Rattle.law_golds.proofs.law_births.Here.{birth_of_held}
 use Rattle.law_golds.proofs.law_births.Joined.{found_says}
 use Rattle.law_golds.proofs.law_births.NamesSay.{house_says, says_flag}
-use Rattle.law_full.proofs.pg_run.Found.{flag_found}
-use Rattle.law_full.proofs.pg_run.Lists.{among_parts}
-use Rattle.law_full.proofs.pg_run.Still.{flag_still}
+use Rattle.pg_run.proofs.Found.{flag_found}
+use Rattle.pg_run.proofs.Lists.{among_parts}
+use Rattle.pg_run.proofs.Still.{flag_still}
 use Rattle.law_repair.proofs.GoldsThere.{flag_at, own_of_known}
 use Rattle.law_repair.proofs.FlagHad.{grown_by}
 

@@ -5,42 +5,42 @@ use Rattle.std.specs.Prelude.{Contains}
 use Rattle.std.proofs.lemmas.Bool.{eqb-true, false≢true, or_parts}
 use Rattle.std.proofs.lemmas.Bool.Decides.{nat_tests}
 use Rattle.std.proofs.lemmas.List.Elements.{All-contains}
-use Rattle.law_full.specs.pg_base.declared.id.FileId.{FileId}
-use Rattle.law_full.specs.pg_base.Id.{file_cmp, is_same_file}
-use Rattle.law_full.proofs.pg_base.Maps.{lookup-insert_entry}
-use Rattle.law_full.proofs.pg_base.Orders.{file_total, is_same_file-refl, is_same_file-true}
-use Rattle.law_full.proofs.pg_calls.Walked.{full_held}
-use Rattle.law_full.specs.pg_event.declared.event.Event.{Event}
-use Rattle.law_full.specs.pg_msg.declared.message.Ends.{Ends}
-use Rattle.law_full.specs.pg_msg.declared.message.Message.TheVariants as message
-use Rattle.law_full.specs.pg_msg.declared.message.Sent.{Sent}
-use Rattle.law_full.specs.pg_names.Names.{InodeValue, is_full_of, known, new_held, new_names, or_blank, own_of}
-use Rattle.law_full.proofs.pg_names.Holding.{begun_known}
-use Rattle.law_full.specs.pg_register.declared.flag.Flag.{Flag}
-use Rattle.law_full.specs.pg_register.Flag.{flag_of, is_raised, is_raised_with, newest}
-use Rattle.law_full.specs.pg_register.Place.{root}
-use Rattle.law_full.proofs.pg_register.ByServer.{flag_of-join_flag}
-use Rattle.law_full.specs.pg_replica.declared.replica.Replica.{Replica}
-use Rattle.law_full.specs.pg_replica.Root.{first_root}
-use Rattle.law_full.specs.pg_pieces.Golds.{flags_of}
-use Rattle.law_full.specs.pg_server.Local.{effect, first_effect}
-use Rattle.law_full.specs.pg_store.declared.store.Store.{Store}
-use Rattle.law_full.specs.pg_store.Births.{birth_of}
-use Rattle.law_full.specs.pg_store.Start.{first_flag, first_flags, root_own}
-use Rattle.law_full.specs.pg_store.Store.{is_full, is_held, new_store, replica_at}
-use Rattle.law_full.specs.pg_store.Together.{BirthsMove, IsOver, birth_at}
-use Rattle.law_full.proofs.pg_store.Over.{moves_then, over_stays}
-use Rattle.law_full.specs.theory_flood_pieces.Whole.{IsWhole}
+use Rattle.pg_run.specs.pg_base.declared.id.FileId.{FileId}
+use Rattle.pg_run.specs.pg_base.Id.{file_cmp, is_same_file}
+use Rattle.pg_run.proofs.pg_base.Maps.{lookup-insert_entry}
+use Rattle.pg_run.proofs.pg_base.Orders.{file_total, is_same_file-refl, is_same_file-true}
+use Rattle.pg_run.proofs.pg_calls.Walked.{full_held}
+use Rattle.pg_run.specs.pg_event.declared.event.Event.{Event}
+use Rattle.pg_run.specs.pg_msg.declared.message.Ends.{Ends}
+use Rattle.pg_run.specs.pg_msg.declared.message.Message.TheVariants as message
+use Rattle.pg_run.specs.pg_msg.declared.message.Sent.{Sent}
+use Rattle.pg_run.specs.pg_names.Names.{InodeValue, is_full_of, known, new_held, new_names, or_blank, own_of}
+use Rattle.pg_run.proofs.pg_names.Holding.{begun_known}
+use Rattle.pg_run.specs.pg_register.declared.flag.Flag.{Flag}
+use Rattle.pg_run.specs.pg_register.Flag.{flag_of, is_raised, is_raised_with, newest}
+use Rattle.pg_run.specs.pg_register.Place.{root}
+use Rattle.pg_run.proofs.pg_register.ByServer.{flag_of-join_flag}
+use Rattle.pg_run.specs.pg_replica.declared.replica.Replica.{Replica}
+use Rattle.pg_run.specs.pg_replica.Root.{first_root}
+use Rattle.pg_run.specs.pg_pieces.Golds.{flags_of}
+use Rattle.pg_run.specs.pg_server.Local.{effect, first_effect}
+use Rattle.pg_run.specs.pg_store.declared.store.Store.{Store}
+use Rattle.pg_run.specs.pg_store.Births.{birth_of}
+use Rattle.pg_run.specs.pg_store.Start.{first_flag, first_flags, root_own}
+use Rattle.pg_run.specs.pg_store.Store.{is_full, is_held, new_store, replica_at}
+use Rattle.pg_run.specs.pg_store.Together.{BirthsMove, IsOver, birth_at}
+use Rattle.pg_run.proofs.pg_store.Over.{moves_then, over_stays}
+use Rattle.pg_run.specs.theory_flood_pieces.Whole.{IsWhole}
 use Rattle.law_golds.proofs.law_births.Has.{born_of}
 use Rattle.law_golds.proofs.law_births.Here.{birth_is}
 use Rattle.law_full.specs.Filled.{SaysFull}
-use Rattle.law_full.specs.pg_run.Graphs.{Holds, IsConnected}
-use Rattle.law_full.specs.pg_run.Journal.{mail}
-use Rattle.law_full.specs.pg_run.Quiet.{IsQuiet}
-use Rattle.law_full.specs.pg_run.Run.{World, is_live, run, start}
-use Rattle.law_full.proofs.pg_run.Frame.{live_is}
-use Rattle.law_full.proofs.pg_run.Lists.{among_contained, among_parts, contained_among}
-use Rattle.law_full.proofs.pg_run.QuietAnswers.{at_or_below}
+use Rattle.pg_run.specs.Graphs.{Holds, IsConnected}
+use Rattle.pg_run.specs.Journal.{mail}
+use Rattle.pg_run.specs.Quiet.{IsQuiet}
+use Rattle.pg_run.specs.Run.{World, is_live, run, start}
+use Rattle.pg_run.proofs.Frame.{live_is}
+use Rattle.pg_run.proofs.Lists.{among_contained, among_parts, contained_among}
+use Rattle.pg_run.proofs.QuietAnswers.{at_or_below}
 use Rattle.law_repair.specs.Given.{StandOn}
 use Rattle.law_repair.specs.Kept.{IsGoldAt, is_held_by}
 use Rattle.law_repair.proofs.GoldsThere.{held_not_over}

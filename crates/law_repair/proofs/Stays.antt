@@ -1,45 +1,45 @@
 -- What is full stays so, as long as its replica is held.
 use Rattle.std.proofs.Common.{ℕ, ◌≡◌, List, ◌&&◌, ◌||◌, not, Bool, true, false, cond, Option, None, Some, is_some, refl, sym, ap, subst, ◌∙◌, inl, inr, ◌⊎◌}
 use Rattle.std.proofs.lemmas.Bool.{false≢true}
-use Rattle.law_full.specs.pg_base.declared.id.FileId.{FileId}
-use Rattle.law_full.specs.pg_base.declared.id.Kind.{Kind}
-use Rattle.law_full.specs.pg_base.declared.policy.Policy.{Policy}
-use Rattle.law_full.specs.pg_base.Id.{is_same_file}
-use Rattle.law_full.proofs.pg_base.Orders.{is_same_file-true}
-use Rattle.law_full.specs.pg_event.declared.event.Event.{Event}
-use Rattle.law_full.specs.pg_house.Work.{state_of}
-use Rattle.law_full.proofs.pg_house.Fullness.{rules_full}
-use Rattle.law_full.specs.pg_msg.declared.message.Ends.{Ends}
-use Rattle.law_full.specs.pg_msg.declared.message.Granted.{Granted}
-use Rattle.law_full.specs.pg_msg.declared.message.Message.{Message}
-use Rattle.law_full.specs.pg_msg.declared.message.Message.TheVariants as message
-use Rattle.law_full.specs.pg_msg.declared.message.Packet.{Packet}
-use Rattle.law_full.specs.pg_msg.declared.work.Work.{Work}
-use Rattle.law_full.specs.pg_msg.Work.{new_work}
-use Rattle.law_full.specs.pg_names.declared.attributes.Attributes.{Attributes}
-use Rattle.law_full.specs.pg_names.Names.{InodeValue, NamesValue, begin as begin_names, blank_own, fill as fill_names, filled, is_full as names_full, is_held as names_held, is_full_of, known, let_go as let_go_names, new_held, update, with_flag, with_joined, with_place}
-use Rattle.law_full.proofs.pg_names.Holding.{begun_known, fill_other, full_kept}
-use Rattle.law_full.specs.pg_register.declared.place.Place.{Place}
-use Rattle.law_full.specs.pg_calls.Naming.{begun, next_id, place_in, with_id, with_thing}
-use Rattle.law_full.proofs.pg_calls.Walked.{full_held}
-use Rattle.law_full.specs.pg_checks.declared.checks.NewName.{NewName}
-use Rattle.law_full.specs.pg_pieces.declared.accepting.EdgeUse.TheVariants as manner
-use Rattle.law_full.specs.pg_pieces.Accepting.{accept, link_peer, met, with_gone}
-use Rattle.law_full.specs.pg_pieces.Done.{Done, idle}
-use Rattle.law_full.specs.pg_pieces.Making.{own_next}
-use Rattle.law_full.specs.pg_repair.Granting.{begin_granted, grant, granted_own}
-use Rattle.law_full.specs.pg_server.declared.input.Input.{Input}
-use Rattle.law_full.specs.pg_server.declared.input.Input.TheVariants as input
-use Rattle.law_full.specs.pg_server.Local.{effect, first_effect, is_heard, receive, ticked}
-use Rattle.law_full.specs.pg_store.declared.store.Store.{Store}
-use Rattle.law_full.specs.pg_store.declared.wishes.Wish.{Wish}
-use Rattle.law_full.specs.pg_store.Births.{draw_birth, fill_at, has_birth, is_fill_at, is_pending, wish_at, with_birth}
-use Rattle.law_full.specs.pg_store.Links.{is_new_link, knows_later, put_link}
-use Rattle.law_full.specs.pg_store.Store.{is_before_clock_end, is_full, is_held, replica_at, take_place}
-use Rattle.law_full.specs.pg_store.Together.{birth_at}
-use Rattle.law_full.specs.pg_store.Wishes.{is_with_birth}
-use Rattle.law_full.proofs.pg_store.Over.{over_stays}
-use Rattle.law_full.proofs.theory_flood_pieces.Choices.{chosen}
+use Rattle.pg_run.specs.pg_base.declared.id.FileId.{FileId}
+use Rattle.pg_run.specs.pg_base.declared.id.Kind.{Kind}
+use Rattle.pg_run.specs.pg_base.declared.policy.Policy.{Policy}
+use Rattle.pg_run.specs.pg_base.Id.{is_same_file}
+use Rattle.pg_run.proofs.pg_base.Orders.{is_same_file-true}
+use Rattle.pg_run.specs.pg_event.declared.event.Event.{Event}
+use Rattle.pg_run.specs.pg_house.Work.{state_of}
+use Rattle.pg_run.proofs.pg_house.Fullness.{rules_full}
+use Rattle.pg_run.specs.pg_msg.declared.message.Ends.{Ends}
+use Rattle.pg_run.specs.pg_msg.declared.message.Granted.{Granted}
+use Rattle.pg_run.specs.pg_msg.declared.message.Message.{Message}
+use Rattle.pg_run.specs.pg_msg.declared.message.Message.TheVariants as message
+use Rattle.pg_run.specs.pg_msg.declared.message.Packet.{Packet}
+use Rattle.pg_run.specs.pg_msg.declared.work.Work.{Work}
+use Rattle.pg_run.specs.pg_msg.Work.{new_work}
+use Rattle.pg_run.specs.pg_names.declared.attributes.Attributes.{Attributes}
+use Rattle.pg_run.specs.pg_names.Names.{InodeValue, NamesValue, begin as begin_names, blank_own, fill as fill_names, filled, is_full as names_full, is_held as names_held, is_full_of, known, let_go as let_go_names, new_held, update, with_flag, with_joined, with_place}
+use Rattle.pg_run.proofs.pg_names.Holding.{begun_known, fill_other, full_kept}
+use Rattle.pg_run.specs.pg_register.declared.place.Place.{Place}
+use Rattle.pg_run.specs.pg_calls.Naming.{begun, next_id, place_in, with_id, with_thing}
+use Rattle.pg_run.proofs.pg_calls.Walked.{full_held}
+use Rattle.pg_run.specs.pg_checks.declared.checks.NewName.{NewName}
+use Rattle.pg_run.specs.pg_pieces.declared.accepting.EdgeUse.TheVariants as manner
+use Rattle.pg_run.specs.pg_pieces.Accepting.{accept, link_peer, met, with_gone}
+use Rattle.pg_run.specs.pg_pieces.Done.{Done, idle}
+use Rattle.pg_run.specs.pg_pieces.Making.{own_next}
+use Rattle.pg_run.specs.pg_repair.Granting.{begin_granted, grant, granted_own}
+use Rattle.pg_run.specs.pg_server.declared.input.Input.{Input}
+use Rattle.pg_run.specs.pg_server.declared.input.Input.TheVariants as input
+use Rattle.pg_run.specs.pg_server.Local.{effect, first_effect, is_heard, receive, ticked}
+use Rattle.pg_run.specs.pg_store.declared.store.Store.{Store}
+use Rattle.pg_run.specs.pg_store.declared.wishes.Wish.{Wish}
+use Rattle.pg_run.specs.pg_store.Births.{draw_birth, fill_at, has_birth, is_fill_at, is_pending, wish_at, with_birth}
+use Rattle.pg_run.specs.pg_store.Links.{is_new_link, knows_later, put_link}
+use Rattle.pg_run.specs.pg_store.Store.{is_before_clock_end, is_full, is_held, replica_at, take_place}
+use Rattle.pg_run.specs.pg_store.Together.{birth_at}
+use Rattle.pg_run.specs.pg_store.Wishes.{is_with_birth}
+use Rattle.pg_run.proofs.pg_store.Over.{over_stays}
+use Rattle.pg_run.proofs.theory_flood_pieces.Choices.{chosen}
 use Rattle.law_golds.proofs.law_births.Has.{born_of}
 use Rattle.law_full.proofs.Calling.{call_kept}
 use Rattle.law_full.proofs.Coming.{receive_kept}
@@ -48,10 +48,10 @@ use Rattle.law_full.proofs.Losing.{lost_kept}
 use Rattle.law_full.proofs.Pieces.{AreKept, begin_kept, flag_kept, place_kept}
 use Rattle.law_golds.specs.law_order.Laws.{FirstEffectsAreWhole}
 use Rattle.law_quiet.specs.Given.{ServersAreWhole}
-use Rattle.law_full.specs.pg_run.Births.{BirthsAreAlone, BirthsMoveInEvents, ReplicasStayOrGo}
-use Rattle.law_full.specs.pg_run.Laws.{TakesIn}
-use Rattle.law_full.specs.pg_run.Run.{Taking, run}
-use Rattle.law_full.proofs.pg_run.Frame.{Acts, acts_is}
+use Rattle.pg_run.specs.Births.{BirthsAreAlone, BirthsMoveInEvents, ReplicasStayOrGo}
+use Rattle.pg_run.specs.Laws.{TakesIn}
+use Rattle.pg_run.specs.Run.{Taking, run}
+use Rattle.pg_run.proofs.Frame.{Acts, acts_is}
 use Rattle.law_repair.specs.Facts.{FullStays}
 use Rattle.law_repair.proofs.Filled.{begun_full, filled_by, gone_full, held_on}
 use Rattle.law_repair.proofs.GoldsThere.{held_not_over}

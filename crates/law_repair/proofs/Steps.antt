@@ -3,31 +3,31 @@ use Rattle.std.proofs.Common.{ℕ, ◌≡◌, ◌≢◌, ◌≤◌, ◌==◌, no
 use Rattle.std.proofs.lemmas.Bool.Decides.{nat_tests}
 use Rattle.std.proofs.lemmas.Bool.{and_from, and_parts, false≢true, not-true}
 use Rattle.std.proofs.lemmas.Option.{none-some, same_Some}
-use Rattle.law_full.specs.pg_base.declared.id.FileId.{FileId}
-use Rattle.law_full.specs.pg_call.declared.call.Call.{Call}
-use Rattle.law_full.specs.pg_content.Content.{Among}
-use Rattle.law_full.proofs.pg_content.Members.{any_by, any_found}
-use Rattle.law_full.specs.pg_event.declared.entry.VoidCause.{VoidCause}
-use Rattle.law_full.specs.pg_event.declared.event.Event.{Event}
-use Rattle.law_full.specs.pg_event.declared.event.Event.TheVariants as happens
-use Rattle.law_full.proofs.theory_flood.Flood.{after_itself}
-use Rattle.law_full.specs.pg_msg.declared.message.Packet.{Packet}
-use Rattle.law_full.specs.pg_msg.declared.message.Sent.{Sent}
-use Rattle.law_full.specs.pg_msg.declared.update.Update.TheVariants as update
-use Rattle.law_full.specs.pg_register.declared.flag.Flag.{Flag}
-use Rattle.law_full.specs.pg_register.Flag.{is_removed}
-use Rattle.law_full.specs.pg_server.declared.input.Input.{Input}
-use Rattle.law_full.specs.pg_server.declared.input.Input.TheVariants as input
-use Rattle.law_full.specs.pg_server.Local.{Effect, closed, effect, finished, first_effect, reply_to, takes_effect}
-use Rattle.law_full.specs.pg_store.declared.store.Store.{Store}
-use Rattle.law_full.proofs.theory_flood_pieces.Choices.{chosen}
-use Rattle.law_full.specs.pg_run.Journal.{mail, message_at, bag, removals}
-use Rattle.law_full.specs.pg_run.Known.{IsFlagOf}
-use Rattle.law_full.specs.pg_run.Laws.{TakesIn}
-use Rattle.law_full.specs.pg_run.Run.{Step, Taking, World, effect_step, idle_step, is_due, is_live, is_server, next, run, start, taking_at, taking_in, taking_message, world_after}
-use Rattle.law_full.proofs.pg_run.Frame.{Acts, IsFramed, acts_is, framed, next_is, other_after, run_more}
-use Rattle.law_full.proofs.pg_run.Lists.{among_front}
-use Rattle.law_full.proofs.pg_run.Removals.{removals_grow}
+use Rattle.pg_run.specs.pg_base.declared.id.FileId.{FileId}
+use Rattle.pg_run.specs.pg_call.declared.call.Call.{Call}
+use Rattle.pg_run.specs.pg_content.Content.{Among}
+use Rattle.pg_run.proofs.pg_content.Members.{any_by, any_found}
+use Rattle.pg_run.specs.pg_event.declared.entry.VoidCause.{VoidCause}
+use Rattle.pg_run.specs.pg_event.declared.event.Event.{Event}
+use Rattle.pg_run.specs.pg_event.declared.event.Event.TheVariants as happens
+use Rattle.pg_run.proofs.theory_flood.Flood.{after_itself}
+use Rattle.pg_run.specs.pg_msg.declared.message.Packet.{Packet}
+use Rattle.pg_run.specs.pg_msg.declared.message.Sent.{Sent}
+use Rattle.pg_run.specs.pg_msg.declared.update.Update.TheVariants as update
+use Rattle.pg_run.specs.pg_register.declared.flag.Flag.{Flag}
+use Rattle.pg_run.specs.pg_register.Flag.{is_removed}
+use Rattle.pg_run.specs.pg_server.declared.input.Input.{Input}
+use Rattle.pg_run.specs.pg_server.declared.input.Input.TheVariants as input
+use Rattle.pg_run.specs.pg_server.Local.{Effect, closed, effect, finished, first_effect, reply_to, takes_effect}
+use Rattle.pg_run.specs.pg_store.declared.store.Store.{Store}
+use Rattle.pg_run.proofs.theory_flood_pieces.Choices.{chosen}
+use Rattle.pg_run.specs.Journal.{mail, message_at, bag, removals}
+use Rattle.pg_run.specs.Known.{IsFlagOf}
+use Rattle.pg_run.specs.Laws.{TakesIn}
+use Rattle.pg_run.specs.Run.{Step, Taking, World, effect_step, idle_step, is_due, is_live, is_server, next, run, start, taking_at, taking_in, taking_message, world_after}
+use Rattle.pg_run.proofs.Frame.{Acts, IsFramed, acts_is, framed, next_is, other_after, run_more}
+use Rattle.pg_run.proofs.Lists.{among_front}
+use Rattle.pg_run.proofs.Removals.{removals_grow}
 
 -- ---- who is live
 

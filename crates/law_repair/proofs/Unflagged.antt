@@ -2,28 +2,28 @@
 use Rattle.std.proofs.Common.{◌≡◌, true, false, List, [], ◌∷◌, ◌++◌, sym, ap, subst, ◌∙◌, inl, inr}
 use Rattle.std.specs.Prelude.{nat_lt}
 use Rattle.std.proofs.lemmas.Bool.{false≢true}
-use Rattle.law_full.specs.pg_base.declared.id.FileId.{FileId}
-use Rattle.law_full.specs.pg_base.declared.stamp.Stamp.{Stamp}
-use Rattle.law_full.specs.pg_base.Id.{is_same_file}
-use Rattle.law_full.proofs.pg_base.Orders.{is_same_file-refl}
-use Rattle.law_full.specs.pg_content.Content.{Among}
-use Rattle.law_full.specs.pg_msg.declared.update.MadeVersion.{MadeVersion}
-use Rattle.law_full.specs.pg_msg.declared.update.Update.{Update}
-use Rattle.law_full.specs.pg_msg.declared.update.Update.TheVariants as update
-use Rattle.law_full.specs.pg_msg.declared.work.Work.{Work}
-use Rattle.law_full.specs.pg_msg.Work.{with_made}
-use Rattle.law_full.specs.pg_patch.Ranges.{RangesValue}
-use Rattle.law_full.specs.pg_register.declared.flag.Flag.{Flag}
-use Rattle.law_full.specs.pg_register.declared.place.Place.{Place}
-use Rattle.law_full.specs.pg_calls.Forgetting.{bare_entry, mark, marked_each}
-use Rattle.law_full.specs.pg_calls.Making.{make_place, make_version, version_of}
-use Rattle.law_full.specs.pg_pieces.Done.{Done, idle}
-use Rattle.law_full.specs.pg_pieces.Making.{make_flag, own_next, raise_flag}
-use Rattle.law_full.specs.pg_repair.Filling.{few_golds, live_golds, raise_if_few}
-use Rattle.law_full.specs.pg_store.declared.store.Store.{Store}
-use Rattle.law_full.proofs.theory_flood_pieces.Choices.{chosen}
-use Rattle.law_full.proofs.pg_run.Lists.{among_parts}
-use Rattle.law_full.proofs.pg_run.Still.{entry_still, flag_still, place_still}
+use Rattle.pg_run.specs.pg_base.declared.id.FileId.{FileId}
+use Rattle.pg_run.specs.pg_base.declared.stamp.Stamp.{Stamp}
+use Rattle.pg_run.specs.pg_base.Id.{is_same_file}
+use Rattle.pg_run.proofs.pg_base.Orders.{is_same_file-refl}
+use Rattle.pg_run.specs.pg_content.Content.{Among}
+use Rattle.pg_run.specs.pg_msg.declared.update.MadeVersion.{MadeVersion}
+use Rattle.pg_run.specs.pg_msg.declared.update.Update.{Update}
+use Rattle.pg_run.specs.pg_msg.declared.update.Update.TheVariants as update
+use Rattle.pg_run.specs.pg_msg.declared.work.Work.{Work}
+use Rattle.pg_run.specs.pg_msg.Work.{with_made}
+use Rattle.pg_run.specs.pg_patch.Ranges.{RangesValue}
+use Rattle.pg_run.specs.pg_register.declared.flag.Flag.{Flag}
+use Rattle.pg_run.specs.pg_register.declared.place.Place.{Place}
+use Rattle.pg_run.specs.pg_calls.Forgetting.{bare_entry, mark, marked_each}
+use Rattle.pg_run.specs.pg_calls.Making.{make_place, make_version, version_of}
+use Rattle.pg_run.specs.pg_pieces.Done.{Done, idle}
+use Rattle.pg_run.specs.pg_pieces.Making.{make_flag, own_next, raise_flag}
+use Rattle.pg_run.specs.pg_repair.Filling.{few_golds, live_golds, raise_if_few}
+use Rattle.pg_run.specs.pg_store.declared.store.Store.{Store}
+use Rattle.pg_run.proofs.theory_flood_pieces.Choices.{chosen}
+use Rattle.pg_run.proofs.Lists.{among_parts}
+use Rattle.pg_run.proofs.Still.{entry_still, flag_still, place_still}
 
 -- ---- lists
 

@@ -3,15 +3,15 @@
 use Rattle.std.proofs.Common.{ℕ, ◌≡◌, ◌≤◌, ◌||◌, ◌&&◌, zero, suc, Bool, true, false, List, [], ◌∷◌, ◌++◌, append_assoc, refl, sym, ap, subst, ◌∙◌, inl, inr, arith}
 use Rattle.std.proofs.lemmas.Bool.{and_from, and_parts, false≢true, or_parts}
 use Rattle.std.proofs.lemmas.List.{append-nil}
-use Rattle.law_full.specs.pg_base.declared.id.FileId.{FileId}
-use Rattle.law_full.specs.pg_event.declared.event.Event.{Event}
-use Rattle.law_full.specs.pg_event.declared.quiet.Quiet.{Quiet}
-use Rattle.law_full.specs.pg_event.declared.quiet.Quiet.TheVariants as quiet
-use Rattle.law_full.specs.pg_pieces.Golds.{is_gold}
-use Rattle.law_full.specs.pg_run.Quiet.{quiet_of}
-use Rattle.law_full.specs.pg_run.Run.{World, is_live, next, run, run_from, start, world_after}
-use Rattle.law_full.proofs.pg_run.Frame.{live_is}
-use Rattle.law_full.proofs.pg_run.QuietAnswers.{at_or_below, quiet_is_told}
+use Rattle.pg_run.specs.pg_base.declared.id.FileId.{FileId}
+use Rattle.pg_run.specs.pg_event.declared.event.Event.{Event}
+use Rattle.pg_run.specs.pg_event.declared.quiet.Quiet.{Quiet}
+use Rattle.pg_run.specs.pg_event.declared.quiet.Quiet.TheVariants as quiet
+use Rattle.pg_run.specs.pg_pieces.Golds.{is_gold}
+use Rattle.pg_run.specs.Quiet.{quiet_of}
+use Rattle.pg_run.specs.Run.{World, is_live, next, run, run_from, start, world_after}
+use Rattle.pg_run.proofs.Frame.{live_is}
+use Rattle.pg_run.proofs.QuietAnswers.{at_or_below, quiet_is_told}
 use Rattle.law_repair.specs.Kept.{AreNeighbours, IsGoldAt, IsKept, IsMoment, StaysGold, is_held_by}
 
 -- ---- what is computed

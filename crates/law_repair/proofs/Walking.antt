@@ -2,19 +2,19 @@
 use Rattle.std.proofs.Common.{ℕ, ◌≡◌, Bool, true, false, List, [], ◌∷◌, ◌++◌, Some, append_assoc, refl, sym, ap, subst, ◌∙◌, inl, inr, ◌⊎◌}
 use Rattle.std.proofs.lemmas.Bool.{false≢true}
 use Rattle.std.proofs.lemmas.List.{append-nil}
-use Rattle.law_full.specs.pg_base.declared.id.FileId.{FileId}
-use Rattle.law_full.specs.pg_event.declared.event.Event.{Event}
-use Rattle.law_full.specs.pg_event.declared.quiet.Quiet.{Quiet}
-use Rattle.law_full.specs.pg_event.declared.quiet.Quiet.TheVariants as told
+use Rattle.pg_run.specs.pg_base.declared.id.FileId.{FileId}
+use Rattle.pg_run.specs.pg_event.declared.event.Event.{Event}
+use Rattle.pg_run.specs.pg_event.declared.quiet.Quiet.{Quiet}
+use Rattle.pg_run.specs.pg_event.declared.quiet.Quiet.TheVariants as told
 use Rattle.law_leaving.proofs.Lists.{split_last}
-use Rattle.law_full.specs.pg_run.Graphs.{Holds, IsConnected}
-use Rattle.law_full.specs.pg_run.Quiet.{IsQuiet, quiet_of}
-use Rattle.law_full.specs.pg_run.Run.{World, run}
-use Rattle.law_full.proofs.pg_run.Frame.{live_is}
-use Rattle.law_full.proofs.pg_run.QuietAnswers.{quiet_is_told}
+use Rattle.pg_run.specs.Graphs.{Holds, IsConnected}
+use Rattle.pg_run.specs.Quiet.{IsQuiet, quiet_of}
+use Rattle.pg_run.specs.Run.{World, run}
+use Rattle.pg_run.proofs.Frame.{live_is}
+use Rattle.pg_run.proofs.QuietAnswers.{quiet_is_told}
 use Rattle.law_golds.proofs.law_births.Has.{born_of}
-use Rattle.law_full.specs.pg_store.Store.{is_full, replica_at}
-use Rattle.law_full.specs.pg_store.Together.{birth_at}
+use Rattle.pg_run.specs.pg_store.Store.{is_full, replica_at}
+use Rattle.pg_run.specs.pg_store.Together.{birth_at}
 use Rattle.law_repair.specs.Given.{StandOn}
 use Rattle.law_repair.specs.Kept.{AreNeighbours, IsCreated, IsGoldAt, IsKept, IsMoment, StaysGold, is_held_by}
 use Rattle.law_repair.proofs.Joining.{all_full, all_know, connected, full_held, full_is}

@@ -2,12 +2,12 @@
 use Rattle.std.proofs.Common.{◌≡◌, Bool, true, false, List, [], ◌∷◌, ◌++◌, append_assoc, drop, refl, sym, ap, subst, ◌∙◌}
 use Rattle.std.specs.List.{list_any}
 use Rattle.std.proofs.lemmas.Bool.{false≢true, or_parts}
-use Rattle.law_full.specs.pg_call.declared.call.Call.TheVariants as call
-use Rattle.law_full.specs.pg_event.declared.event.Event.{Event}
-use Rattle.law_full.specs.pg_event.declared.event.Event.TheVariants.{Call, Deliver, Remove}
-use Rattle.law_full.specs.pg_register.Place.{root}
-use Rattle.law_full.specs.pg_run.Run.{run}
-use Rattle.law_full.proofs.pg_run.QuietAnswers.{quiet_is_told}
+use Rattle.pg_run.specs.pg_call.declared.call.Call.TheVariants as call
+use Rattle.pg_run.specs.pg_event.declared.event.Event.{Event}
+use Rattle.pg_run.specs.pg_event.declared.event.Event.TheVariants.{Call, Deliver, Remove}
+use Rattle.pg_run.specs.pg_register.Place.{root}
+use Rattle.pg_run.specs.Run.{run}
+use Rattle.pg_run.proofs.QuietAnswers.{quiet_is_told}
 use Rattle.law_repair.specs.Kept.{IsGoldAt, IsKept}
 use Rattle.law_repair.specs.Witness.{LossIsNotKept, RemovalKeepsTheRoot, forgotten, heard, looked_at, loss, lost_dir, lost_file, made, removal}
 use Rattle.law_repair.proofs.Unkept.{not_kept}

@@ -2,29 +2,29 @@
 -- statements on all runs.
 use Rattle.std.specs.Prelude.{ℕ, ◌≡◌, ◌⊎◌, true, false, Contains, None, Some}
 use Rattle.std.specs.List.{IsAmong}
-use Rattle.law_full.specs.pg_base.declared.id.FileId.{FileId}
-use Rattle.law_full.specs.pg_base.declared.id.Kind.{Kind}
-use Rattle.law_full.specs.pg_call.declared.call.Call.TheVariants as call
-use Rattle.law_full.specs.pg_call.declared.reply.Reply.TheVariants as reply
-use Rattle.law_full.specs.pg_edges.declared.edge.Edge.{Edge}
-use Rattle.law_full.specs.pg_edges.declared.key.Key.{Key}
-use Rattle.law_full.specs.pg_edges.Keys.{tag_in}
-use Rattle.law_full.specs.pg_msg.declared.message.Ends.{Ends}
-use Rattle.law_full.specs.pg_msg.declared.message.Message.TheVariants as message
-use Rattle.law_full.specs.pg_msg.declared.message.Packet.{Packet}
-use Rattle.law_full.specs.pg_msg.declared.message.Sent.{Sent}
-use Rattle.law_full.specs.pg_msg.declared.update.Update.TheVariants as update
-use Rattle.law_full.specs.pg_register.declared.flag.Flag.{Flag}
-use Rattle.law_full.specs.pg_replica.declared.replica.Replica.{Replica}
-use Rattle.law_full.specs.pg_pieces.Golds.{is_gold}
-use Rattle.law_full.specs.pg_calls.Naming.{next_id}
-use Rattle.law_full.specs.pg_server.declared.input.Input.{Input}
-use Rattle.law_full.specs.pg_server.declared.input.Input.TheVariants as input
-use Rattle.law_full.specs.pg_server.Local.{effect, reply_to}
-use Rattle.law_full.specs.pg_store.declared.store.Store.{Store}
-use Rattle.law_full.specs.pg_store.Store.{is_full, replica_at}
-use Rattle.law_full.specs.pg_store.Together.{birth_at}
-use Rattle.law_full.specs.pg_run.Going.{InEvents, behind, sent_in}
+use Rattle.pg_run.specs.pg_base.declared.id.FileId.{FileId}
+use Rattle.pg_run.specs.pg_base.declared.id.Kind.{Kind}
+use Rattle.pg_run.specs.pg_call.declared.call.Call.TheVariants as call
+use Rattle.pg_run.specs.pg_call.declared.reply.Reply.TheVariants as reply
+use Rattle.pg_run.specs.pg_edges.declared.edge.Edge.{Edge}
+use Rattle.pg_run.specs.pg_edges.declared.key.Key.{Key}
+use Rattle.pg_run.specs.pg_edges.Keys.{tag_in}
+use Rattle.pg_run.specs.pg_msg.declared.message.Ends.{Ends}
+use Rattle.pg_run.specs.pg_msg.declared.message.Message.TheVariants as message
+use Rattle.pg_run.specs.pg_msg.declared.message.Packet.{Packet}
+use Rattle.pg_run.specs.pg_msg.declared.message.Sent.{Sent}
+use Rattle.pg_run.specs.pg_msg.declared.update.Update.TheVariants as update
+use Rattle.pg_run.specs.pg_register.declared.flag.Flag.{Flag}
+use Rattle.pg_run.specs.pg_replica.declared.replica.Replica.{Replica}
+use Rattle.pg_run.specs.pg_pieces.Golds.{is_gold}
+use Rattle.pg_run.specs.pg_calls.Naming.{next_id}
+use Rattle.pg_run.specs.pg_server.declared.input.Input.{Input}
+use Rattle.pg_run.specs.pg_server.declared.input.Input.TheVariants as input
+use Rattle.pg_run.specs.pg_server.Local.{effect, reply_to}
+use Rattle.pg_run.specs.pg_store.declared.store.Store.{Store}
+use Rattle.pg_run.specs.pg_store.Store.{is_full, replica_at}
+use Rattle.pg_run.specs.pg_store.Together.{birth_at}
+use Rattle.pg_run.specs.Going.{InEvents, behind, sent_in}
 
 -- ---- what becomes full
 

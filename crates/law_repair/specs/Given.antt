@@ -4,14 +4,14 @@ use Rattle.law_full.specs.Filled.{FullSays}
 use Rattle.law_golds.specs.law_order.Laws.{AllIsNamed}
 use Rattle.law_quiet.specs.Given.{ServersAreWhole}
 use Rattle.law_quiet.specs.Laws.{QuietStoresAgree}
-use Rattle.law_full.specs.pg_run.Acknowledged.{AcknowledgedKeysAreHad}
-use Rattle.law_full.specs.pg_run.Births.{BirthsAreAlone, BirthsAreKnown, BirthsMoveInEvents, ReplicasStayOrGo}
-use Rattle.law_full.specs.pg_run.Golds.{ReplicasNameGolds}
-use Rattle.law_full.specs.pg_run.Grown.{EventsGrow}
-use Rattle.law_full.specs.pg_run.Intending.{IntentionsAreInOrder}
-use Rattle.law_full.specs.pg_run.Known.{CarriedIsKnown, FlagsAreOwn}
-use Rattle.law_full.specs.pg_run.Leaving.{HeardEdgesAreKnown}
-use Rattle.law_full.specs.pg_run.Views.{ViewsArePrefixes}
+use Rattle.pg_run.specs.Acknowledged.{AcknowledgedKeysAreHad}
+use Rattle.pg_run.specs.Births.{BirthsAreAlone, BirthsAreKnown, BirthsMoveInEvents, ReplicasStayOrGo}
+use Rattle.pg_run.specs.Golds.{ReplicasNameGolds}
+use Rattle.pg_run.specs.Grown.{EventsGrow}
+use Rattle.pg_run.specs.Intending.{IntentionsAreInOrder}
+use Rattle.pg_run.specs.Known.{CarriedIsKnown, FlagsAreOwn}
+use Rattle.pg_run.specs.Leaving.{HeardEdgesAreKnown}
+use Rattle.pg_run.specs.Views.{ViewsArePrefixes}
 use Rattle.law_repair.specs.Facts.{FullBegins, FullIsSaid, FullStays, GoldsRaiseNone}
 
 -- of each event

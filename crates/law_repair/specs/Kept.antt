@@ -1,17 +1,17 @@
 -- Which things are kept: between any two neighbouring moments of theirs one gold replica stays.
 use Rattle.std.specs.Prelude.{ℕ, ◌≡◌, ◌⊎◌, ◌||◌, Bool, true, false, List, [], ◌∷◌, ◌++◌, Some, zero, suc}
-use Rattle.law_full.specs.pg_base.declared.id.FileId.{FileId}
-use Rattle.law_full.specs.pg_call.declared.call.Call.TheVariants as call
-use Rattle.law_full.specs.pg_call.declared.reply.Reply.TheVariants as reply
-use Rattle.law_full.specs.pg_event.declared.event.Event.{Event}
-use Rattle.law_full.specs.pg_event.declared.event.Event.TheVariants as event
-use Rattle.law_full.specs.pg_pieces.Golds.{is_gold}
-use Rattle.law_full.specs.pg_store.Store.{is_held}
-use Rattle.law_full.specs.pg_store.Together.{birth_at}
-use Rattle.law_full.specs.pg_run.Graphs.{AreConnected, Holds, IsConnected}
-use Rattle.law_full.specs.pg_run.Laws.{Agree, AtLive, IsBroughtBack, IsListedOnly, IsTree}
-use Rattle.law_full.specs.pg_run.Quiet.{IsQuiet}
-use Rattle.law_full.specs.pg_run.Run.{World, is_live, next, run}
+use Rattle.pg_run.specs.pg_base.declared.id.FileId.{FileId}
+use Rattle.pg_run.specs.pg_call.declared.call.Call.TheVariants as call
+use Rattle.pg_run.specs.pg_call.declared.reply.Reply.TheVariants as reply
+use Rattle.pg_run.specs.pg_event.declared.event.Event.{Event}
+use Rattle.pg_run.specs.pg_event.declared.event.Event.TheVariants as event
+use Rattle.pg_run.specs.pg_pieces.Golds.{is_gold}
+use Rattle.pg_run.specs.pg_store.Store.{is_held}
+use Rattle.pg_run.specs.pg_store.Together.{birth_at}
+use Rattle.pg_run.specs.Graphs.{AreConnected, Holds, IsConnected}
+use Rattle.pg_run.specs.Laws.{Agree, AtLive, IsBroughtBack, IsListedOnly, IsTree}
+use Rattle.pg_run.specs.Quiet.{IsQuiet}
+use Rattle.pg_run.specs.Run.{World, is_live, next, run}
 
 -- ---- moments
 

@@ -2,17 +2,17 @@
 -- one in which the one gold replica of each of two things goes between two moments, and one in
 -- which replicas are parted by such a loss.
 use Rattle.std.specs.Prelude.{ℕ, ◌≡◌, ◌+◌, zero, suc, List, [], ◌∷◌, ◌++◌}
-use Rattle.law_full.specs.pg_base.declared.id.FileId.{FileId}
-use Rattle.law_full.specs.pg_base.declared.id.Kind.TheVariants.{Dir, File}
-use Rattle.law_full.specs.pg_base.declared.policy.Policy.TheVariants.{Last}
-use Rattle.law_full.specs.pg_call.declared.call.Call.TheVariants.{Create, Forget, Giveup, Ls, Mkdir, Read, Rename, Rmdir}
-use Rattle.law_full.specs.pg_event.declared.event.Event.{Event}
-use Rattle.law_full.specs.pg_event.declared.event.Event.TheVariants.{Call, Deliver, Lose, Remove, Tick}
-use Rattle.law_full.specs.pg_names.Names.{own_at}
-use Rattle.law_full.specs.pg_register.Place.{root}
-use Rattle.law_full.specs.pg_run.Graphs.{AreConnected, IsConnected}
-use Rattle.law_full.specs.pg_run.Quiet.{IsQuiet}
-use Rattle.law_full.specs.pg_run.Run.{run}
+use Rattle.pg_run.specs.pg_base.declared.id.FileId.{FileId}
+use Rattle.pg_run.specs.pg_base.declared.id.Kind.TheVariants.{Dir, File}
+use Rattle.pg_run.specs.pg_base.declared.policy.Policy.TheVariants.{Last}
+use Rattle.pg_run.specs.pg_call.declared.call.Call.TheVariants.{Create, Forget, Giveup, Ls, Mkdir, Read, Rename, Rmdir}
+use Rattle.pg_run.specs.pg_event.declared.event.Event.{Event}
+use Rattle.pg_run.specs.pg_event.declared.event.Event.TheVariants.{Call, Deliver, Lose, Remove, Tick}
+use Rattle.pg_run.specs.pg_names.Names.{own_at}
+use Rattle.pg_run.specs.pg_register.Place.{root}
+use Rattle.pg_run.specs.Graphs.{AreConnected, IsConnected}
+use Rattle.pg_run.specs.Quiet.{IsQuiet}
+use Rattle.pg_run.specs.Run.{run}
 use Rattle.law_repair.specs.Kept.{IsKept}
 
 -- ---- a server is removed, and the others give it up

@@ -2,42 +2,42 @@
 use Rattle.std.proofs.Common.{[], ℕ, ◌≡◌, ◌<◌, ◌≤◌, ◌++◌, Bool, true, false, List, ◌∷◌, get_or, Contains, Option, None, Some, All, refl, sym, ap, subst, ◌∙◌, inl, inr, arith}
 use Rattle.std.proofs.lemmas.Bool.{false≢true}
 use Rattle.std.proofs.lemmas.List.Elements.{All-append, All-contains, All-nil}
-use Rattle.law_full.specs.pg_base.declared.id.FileId.{FileId}
-use Rattle.law_full.specs.pg_base.declared.stamp.Stamp.{Stamp}
-use Rattle.law_full.specs.pg_base.Id.{is_same_file}
-use Rattle.law_full.proofs.pg_base.Orders.{is_same_file-true}
-use Rattle.law_full.specs.pg_entries.declared.entry.Entry.{Entry}
-use Rattle.law_full.specs.pg_entries.Entry.{is_listed}
-use Rattle.law_full.specs.pg_call.declared.call.Call.{Call}
-use Rattle.law_full.specs.pg_event.declared.event.Event.{Event}
-use Rattle.law_full.specs.pg_event.declared.entry.Entry.{Entry as Line}
-use Rattle.law_full.proofs.theory_flood.Flood.{after_itself, here}
-use Rattle.law_full.specs.pg_msg.declared.message.Packet.{Packet}
-use Rattle.law_full.specs.pg_msg.declared.message.Sent.{Sent}
-use Rattle.law_full.specs.pg_msg.declared.update.Update.{Update}
-use Rattle.law_full.specs.pg_msg.declared.update.Update.TheVariants as update
-use Rattle.law_full.specs.pg_names.declared.attributes.Attributes.{Attributes}
-use Rattle.law_full.specs.pg_names.Names.{InodeValue, NamesValue, cell_at, is_dir, known, new_names, or_blank, own_at, own_of}
-use Rattle.law_full.proofs.pg_names.Holding.{begun_other, begun_same}
-use Rattle.law_full.specs.pg_register.declared.place.Place.{Place}
-use Rattle.law_full.specs.pg_register.Place.{blank_place, root}
-use Rattle.law_full.specs.pg_house.Facts.{IsLast}
-use Rattle.law_full.proofs.pg_house.Lasting.{drawn_late}
-use Rattle.law_full.specs.pg_store.declared.store.Store.{Store}
-use Rattle.law_full.specs.pg_store.Seen.{removed_of}
-use Rattle.law_full.specs.pg_store.Start.{first_names, root_own}
-use Rattle.law_full.specs.pg_calls.Making.{drawn}
-use Rattle.law_full.specs.pg_server.declared.input.Input.{Input}
-use Rattle.law_full.specs.pg_server.declared.input.Input.TheVariants as input
-use Rattle.law_full.specs.pg_server.Local.{effect, is_heard}
-use Rattle.law_full.proofs.theory_flood_pieces.Growth.{entry_known_itself}
-use Rattle.law_full.specs.pg_run.Journal.{mail}
-use Rattle.law_full.specs.pg_run.Laws.{TakesIn}
-use Rattle.law_full.specs.pg_run.Run.{Step, World, effect_step, idle_step, next, run, run_from, start, world_after}
-use Rattle.law_full.specs.pg_run.Views.{removed_by}
-use Rattle.law_full.proofs.pg_run.Lists.{contained_among}
+use Rattle.pg_run.specs.pg_base.declared.id.FileId.{FileId}
+use Rattle.pg_run.specs.pg_base.declared.stamp.Stamp.{Stamp}
+use Rattle.pg_run.specs.pg_base.Id.{is_same_file}
+use Rattle.pg_run.proofs.pg_base.Orders.{is_same_file-true}
+use Rattle.pg_run.specs.pg_entries.declared.entry.Entry.{Entry}
+use Rattle.pg_run.specs.pg_entries.Entry.{is_listed}
+use Rattle.pg_run.specs.pg_call.declared.call.Call.{Call}
+use Rattle.pg_run.specs.pg_event.declared.event.Event.{Event}
+use Rattle.pg_run.specs.pg_event.declared.entry.Entry.{Entry as Line}
+use Rattle.pg_run.proofs.theory_flood.Flood.{after_itself, here}
+use Rattle.pg_run.specs.pg_msg.declared.message.Packet.{Packet}
+use Rattle.pg_run.specs.pg_msg.declared.message.Sent.{Sent}
+use Rattle.pg_run.specs.pg_msg.declared.update.Update.{Update}
+use Rattle.pg_run.specs.pg_msg.declared.update.Update.TheVariants as update
+use Rattle.pg_run.specs.pg_names.declared.attributes.Attributes.{Attributes}
+use Rattle.pg_run.specs.pg_names.Names.{InodeValue, NamesValue, cell_at, is_dir, known, new_names, or_blank, own_at, own_of}
+use Rattle.pg_run.proofs.pg_names.Holding.{begun_other, begun_same}
+use Rattle.pg_run.specs.pg_register.declared.place.Place.{Place}
+use Rattle.pg_run.specs.pg_register.Place.{blank_place, root}
+use Rattle.pg_run.specs.pg_house.Facts.{IsLast}
+use Rattle.pg_run.proofs.pg_house.Lasting.{drawn_late}
+use Rattle.pg_run.specs.pg_store.declared.store.Store.{Store}
+use Rattle.pg_run.specs.pg_store.Seen.{removed_of}
+use Rattle.pg_run.specs.pg_store.Start.{first_names, root_own}
+use Rattle.pg_run.specs.pg_calls.Making.{drawn}
+use Rattle.pg_run.specs.pg_server.declared.input.Input.{Input}
+use Rattle.pg_run.specs.pg_server.declared.input.Input.TheVariants as input
+use Rattle.pg_run.specs.pg_server.Local.{effect, is_heard}
+use Rattle.pg_run.proofs.theory_flood_pieces.Growth.{entry_known_itself}
+use Rattle.pg_run.specs.Journal.{mail}
+use Rattle.pg_run.specs.Laws.{TakesIn}
+use Rattle.pg_run.specs.Run.{Step, World, effect_step, idle_step, next, run, run_from, start, world_after}
+use Rattle.pg_run.specs.Views.{removed_by}
+use Rattle.pg_run.proofs.Lists.{contained_among}
 use Rattle.law_returns.specs.Gate.{Brings, EdgesAreKept, GateStands, IsDated, IsGated, IsStillThere, IsUnknown, IsUnknownAtFirst, KnowsChildren, KnowsOrOver, RemovedAreEmpty, Removes, place_at}
-use Rattle.law_full.proofs.pg_run.Frame.{HasCome}
+use Rattle.pg_run.proofs.Frame.{HasCome}
 use Rattle.law_full.proofs.Acting.{next_by, runs_keep}
 use Rattle.law_full.proofs.HousePlaces.{drawn_some}
 use Rattle.law_full.proofs.Called.{IsGoing}

@@ -1,40 +1,40 @@
 -- Which event gives a directory a dead place: a message that brings it, or a call at its maker.
 use Rattle.std.proofs.Common.{ℕ, ◌≡◌, ◌≤◌, not, Bool, true, false, cond, List, [], ◌∷◌, ◌++◌, Option, None, Some, refl, sym, ap, subst, ◌∙◌, inl, inr, ◌⊎◌, arith}
 use Rattle.std.proofs.lemmas.Bool.{and_parts, false≢true, and_from, not_from_false}
-use Rattle.law_full.specs.pg_base.declared.id.FileId.{FileId}
-use Rattle.law_full.specs.pg_base.Id.{is_same_file}
-use Rattle.law_full.specs.pg_base.Stamp.{is_before}
-use Rattle.law_full.proofs.pg_base.Orders.{is_same_file-true}
-use Rattle.law_full.specs.pg_register.declared.flag.Flag.{Flag}
-use Rattle.law_full.specs.pg_register.declared.place.Place.{Place}
-use Rattle.law_full.specs.pg_register.Flag.{is_removed}
-use Rattle.law_full.specs.pg_register.Place.{blank_place}
-use Rattle.law_full.specs.pg_entries.declared.cell.Cell.TheVariants as cell
-use Rattle.law_full.specs.pg_msg.declared.message.Message.TheVariants as message
-use Rattle.law_full.specs.pg_msg.declared.message.Packet.{Packet}
-use Rattle.law_full.specs.pg_msg.declared.update.Update.{Update}
-use Rattle.law_full.specs.pg_msg.declared.work.Work.{Work}
-use Rattle.law_full.specs.pg_msg.Work.{new_work}
-use Rattle.law_full.specs.pg_names.declared.attributes.Attributes.{Attributes}
-use Rattle.law_full.specs.pg_names.Names.{InodeValue, NamesValue, begin, blank_own, filled, is_dir, join_flag, join_place, known, let_go, or_blank, own_at, own_of, with_flag, with_joined, with_place}
-use Rattle.law_full.proofs.pg_names.Gone.{gone_known}
-use Rattle.law_full.proofs.pg_names.Holding.{begun_other, begun_same, fill_own}
-use Rattle.law_full.proofs.pg_names.Lookups.{flag_other, flag_same, joined_own, known_absent, own_with_flag, own_with_place, place_other, place_same, update_frame}
-use Rattle.law_full.specs.pg_house.House.{house}
-use Rattle.law_full.specs.pg_house.Passing.{is_held_back, own_taken}
-use Rattle.law_full.specs.pg_house.Work.{state_of}
-use Rattle.law_full.specs.pg_store.declared.store.Store.{Store}
-use Rattle.law_full.specs.pg_store.Births.{draw_birth, has_birth, with_birth}
-use Rattle.law_full.specs.pg_store.Store.{take_place}
-use Rattle.law_full.specs.pg_pieces.Making.{own_next}
-use Rattle.law_full.specs.pg_call.declared.call.Call.{Call}
-use Rattle.law_full.specs.pg_calls.Making.{drawn}
-use Rattle.law_full.specs.pg_calls.Naming.{begun, next_id, place_in, with_id}
-use Rattle.law_full.specs.pg_server.declared.input.Input.{Input}
-use Rattle.law_full.specs.pg_server.declared.input.Input.TheVariants as input
-use Rattle.law_full.specs.pg_server.Local.{effect, first_effect, is_heard}
-use Rattle.law_full.proofs.theory_flood_pieces.Choices.{chosen}
-use Rattle.law_full.proofs.pg_run.Ticked.{tick_store}
+use Rattle.pg_run.specs.pg_base.declared.id.FileId.{FileId}
+use Rattle.pg_run.specs.pg_base.Id.{is_same_file}
+use Rattle.pg_run.specs.pg_base.Stamp.{is_before}
+use Rattle.pg_run.proofs.pg_base.Orders.{is_same_file-true}
+use Rattle.pg_run.specs.pg_register.declared.flag.Flag.{Flag}
+use Rattle.pg_run.specs.pg_register.declared.place.Place.{Place}
+use Rattle.pg_run.specs.pg_register.Flag.{is_removed}
+use Rattle.pg_run.specs.pg_register.Place.{blank_place}
+use Rattle.pg_run.specs.pg_entries.declared.cell.Cell.TheVariants as cell
+use Rattle.pg_run.specs.pg_msg.declared.message.Message.TheVariants as message
+use Rattle.pg_run.specs.pg_msg.declared.message.Packet.{Packet}
+use Rattle.pg_run.specs.pg_msg.declared.update.Update.{Update}
+use Rattle.pg_run.specs.pg_msg.declared.work.Work.{Work}
+use Rattle.pg_run.specs.pg_msg.Work.{new_work}
+use Rattle.pg_run.specs.pg_names.declared.attributes.Attributes.{Attributes}
+use Rattle.pg_run.specs.pg_names.Names.{InodeValue, NamesValue, begin, blank_own, filled, is_dir, join_flag, join_place, known, let_go, or_blank, own_at, own_of, with_flag, with_joined, with_place}
+use Rattle.pg_run.proofs.pg_names.Gone.{gone_known}
+use Rattle.pg_run.proofs.pg_names.Holding.{begun_other, begun_same, fill_own}
+use Rattle.pg_run.proofs.pg_names.Lookups.{flag_other, flag_same, joined_own, known_absent, own_with_flag, own_with_place, place_other, place_same, update_frame}
+use Rattle.pg_run.specs.pg_house.House.{house}
+use Rattle.pg_run.specs.pg_house.Passing.{is_held_back, own_taken}
+use Rattle.pg_run.specs.pg_house.Work.{state_of}
+use Rattle.pg_run.specs.pg_store.declared.store.Store.{Store}
+use Rattle.pg_run.specs.pg_store.Births.{draw_birth, has_birth, with_birth}
+use Rattle.pg_run.specs.pg_store.Store.{take_place}
+use Rattle.pg_run.specs.pg_pieces.Making.{own_next}
+use Rattle.pg_run.specs.pg_call.declared.call.Call.{Call}
+use Rattle.pg_run.specs.pg_calls.Making.{drawn}
+use Rattle.pg_run.specs.pg_calls.Naming.{begun, next_id, place_in, with_id}
+use Rattle.pg_run.specs.pg_server.declared.input.Input.{Input}
+use Rattle.pg_run.specs.pg_server.declared.input.Input.TheVariants as input
+use Rattle.pg_run.specs.pg_server.Local.{effect, first_effect, is_heard}
+use Rattle.pg_run.proofs.theory_flood_pieces.Choices.{chosen}
+use Rattle.pg_run.proofs.Ticked.{tick_store}
 use Rattle.law_full.proofs.Calling.{CallsKeep, call_kept}
 use Rattle.law_full.proofs.Coming.{MayCome, receive_kept}
 use Rattle.law_full.proofs.Effects.{arrival_kept, effect_kept}
@@ -44,7 +44,7 @@ use Rattle.law_full.proofs.Given.{last_live}
 use Rattle.law_full.proofs.Losing.{lost_kept}
 use Rattle.law_returns.specs.Gate.{Brings, IsMindful, IsStillThere, place_at}
 use Rattle.law_returns.proofs.Lasting.{before_by, house_removed, more_removed}
-use Rattle.law_full.specs.pg_calls.Forgetting.{root_place}
+use Rattle.pg_run.specs.pg_calls.Forgetting.{root_place}
 
 -- a dead place is the one that the directory had, or has the stamp that is drawn now, or the
 -- message, which is heard, brings it to the replica that is here

@@ -2,18 +2,18 @@
 use Rattle.std.proofs.Common.{[], ◌≡◌, Bool, true, false, cond, List, ◌∷◌, filter, Option, None, Some, refl, sym, ap, ◌∙◌}
 use Rattle.std.specs.Ordering.{is_lt}
 use Rattle.std.specs.Map.{values_of}
-use Rattle.law_full.proofs.theory_flood_pieces.Choices.{chosen}
+use Rattle.pg_run.proofs.theory_flood_pieces.Choices.{chosen}
 use Rattle.std.specs.BTreeMap.{is_at}
 use Rattle.std.proofs.lemmas.Option.{none-some, same_Some}
-use Rattle.law_full.specs.pg_base.declared.id.FileId.{FileId}
-use Rattle.law_full.specs.pg_base.Id.{file_cmp}
-use Rattle.law_full.specs.pg_entries.declared.entry.Entry.{Entry}
-use Rattle.law_full.specs.pg_entries.Entry.{entry_of, is_listed}
-use Rattle.law_full.specs.pg_entries.Shown.{children_of, insert_row, listing_of, row_cmp, row_of, rows_in_order, rows_of}
-use Rattle.law_full.specs.pg_names.Names.{InodeValue, entry_in}
-use Rattle.law_full.specs.pg_path.declared.row.Row.{Row}
-use Rattle.law_full.specs.pg_checks.Checks.{first_child, first_row}
-use Rattle.law_full.proofs.pg_run.QuietAnswers.{map_empty}
+use Rattle.pg_run.specs.pg_base.declared.id.FileId.{FileId}
+use Rattle.pg_run.specs.pg_base.Id.{file_cmp}
+use Rattle.pg_run.specs.pg_entries.declared.entry.Entry.{Entry}
+use Rattle.pg_run.specs.pg_entries.Entry.{entry_of, is_listed}
+use Rattle.pg_run.specs.pg_entries.Shown.{children_of, insert_row, listing_of, row_cmp, row_of, rows_in_order, rows_of}
+use Rattle.pg_run.specs.pg_names.Names.{InodeValue, entry_in}
+use Rattle.pg_run.specs.pg_path.declared.row.Row.{Row}
+use Rattle.pg_run.specs.pg_checks.Checks.{first_child, first_row}
+use Rattle.pg_run.proofs.QuietAnswers.{map_empty}
 
 no_row : (rows : List Row) → first_row rows ≡ None → rows ≡ []
 no_row [] h = refl

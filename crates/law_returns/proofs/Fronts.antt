@@ -2,17 +2,17 @@
 use Rattle.std.proofs.Common.{ℕ, ◌≡◌, ◌≤◌, ◌==◌, ◌+◌, ◌++◌, true, List, length, take, sym, ap, subst, ◌∙◌, arith}
 use Rattle.std.proofs.lemmas.Bool.{and_parts, eqb-true}
 use Rattle.std.proofs.lemmas.List.{length-append, take-append-le}
-use Rattle.law_full.specs.pg_msg.declared.message.Packet.{Packet}
-use Rattle.law_full.specs.pg_register.declared.place.Place.{Place}
-use Rattle.law_full.specs.pg_register.Flag.{is_removed}
-use Rattle.law_full.specs.pg_store.declared.store.Store.{Store}
-use Rattle.law_full.specs.pg_store.Seen.{removed_of, view_of}
-use Rattle.law_full.specs.pg_store.Store.{is_before_clock_end}
-use Rattle.law_full.specs.pg_server.Local.{is_heard}
-use Rattle.law_full.specs.pg_run.Journal.{removals}
-use Rattle.law_full.specs.pg_run.Run.{Step, World, world_after}
-use Rattle.law_full.specs.pg_run.Views.{IsInView, removed_by}
-use Rattle.law_full.proofs.pg_run.Removals.{removals_grow}
+use Rattle.pg_run.specs.pg_msg.declared.message.Packet.{Packet}
+use Rattle.pg_run.specs.pg_register.declared.place.Place.{Place}
+use Rattle.pg_run.specs.pg_register.Flag.{is_removed}
+use Rattle.pg_run.specs.pg_store.declared.store.Store.{Store}
+use Rattle.pg_run.specs.pg_store.Seen.{removed_of, view_of}
+use Rattle.pg_run.specs.pg_store.Store.{is_before_clock_end}
+use Rattle.pg_run.specs.pg_server.Local.{is_heard}
+use Rattle.pg_run.specs.Journal.{removals}
+use Rattle.pg_run.specs.Run.{Step, World, world_after}
+use Rattle.pg_run.specs.Views.{IsInView, removed_by}
+use Rattle.pg_run.proofs.Removals.{removals_grow}
 use Rattle.law_returns.specs.Gate.{IsStillThere}
 
 -- a front of some stays one of more

@@ -3,42 +3,42 @@
 use Rattle.std.proofs.Common.{ℕ, ◌≡◌, ◌≤◌, ◌<◌, arith, true, false, List, get_or, Option, None, Some, All, refl, sym, ap, subst, ◌∙◌, inl, inr}
 use Rattle.std.proofs.lemmas.Bool.{false≢true}
 use Rattle.std.proofs.lemmas.List.Elements.{All-append, All-contains, All-nil, All-weaker}
-use Rattle.law_full.specs.pg_base.declared.id.FileId.{FileId}
-use Rattle.law_full.specs.pg_base.declared.stamp.Stamp.{Stamp}
-use Rattle.law_full.specs.pg_entries.declared.cell.Cell.{Cell}
-use Rattle.law_full.specs.pg_entries.declared.entry.Entry.{Entry}
-use Rattle.law_full.specs.pg_event.declared.event.Event.{Event}
-use Rattle.law_full.specs.theory_flood.World.{after}
-use Rattle.law_full.proofs.theory_flood.Flood.{after_itself, here}
-use Rattle.law_full.specs.pg_intent.declared.intent.Intent.{Intent}
-use Rattle.law_full.specs.pg_intent.declared.key.IntentKey.{IntentKey}
-use Rattle.law_full.specs.pg_intent.Intents.{intent_at}
-use Rattle.law_full.specs.pg_msg.declared.message.Ends.{Ends}
-use Rattle.law_full.specs.pg_msg.declared.message.Granted.{Granted}
-use Rattle.law_full.specs.pg_msg.declared.message.Message.{Message}
-use Rattle.law_full.specs.pg_msg.declared.message.Message.TheVariants as message
-use Rattle.law_full.specs.pg_msg.declared.message.Packet.{Packet}
-use Rattle.law_full.specs.pg_msg.declared.message.Sent.{Sent}
-use Rattle.law_full.specs.pg_calls.Making.{drawn}
-use Rattle.law_full.proofs.pg_house.Lasting.{drawn_late}
-use Rattle.law_full.specs.pg_names.Names.{NamesValue, is_dir}
-use Rattle.law_full.specs.pg_register.declared.place.Place.{Place}
-use Rattle.law_full.specs.pg_store.declared.store.Store.{Store}
-use Rattle.law_full.specs.pg_store.Seen.{removed_of, view_of}
-use Rattle.law_full.specs.pg_store.Together.{BirthsMove}
-use Rattle.law_full.proofs.pg_store.Over.{moves_then}
-use Rattle.law_full.specs.pg_cells.Sending.{Wanted, cells_where}
-use Rattle.law_full.specs.pg_intentions.Intending.{pieces}
-use Rattle.law_full.specs.pg_intentions.Requests.{asks}
-use Rattle.law_full.specs.pg_server.declared.input.Input.{Input}
-use Rattle.law_full.specs.pg_server.declared.input.Input.TheVariants as input
-use Rattle.law_full.specs.pg_server.Local.{effect, first_effect, is_heard}
-use Rattle.law_full.specs.theory_flood_pieces.Growing.{Grows}
-use Rattle.law_full.specs.pg_run.Journal.{mail}
-use Rattle.law_full.specs.pg_run.Laws.{TakesIn}
-use Rattle.law_full.specs.pg_run.Run.{Step, World, effect_step, idle_step, next, run_from, world_after}
-use Rattle.law_full.specs.pg_run.Views.{IsInView, removed_by}
-use Rattle.law_full.proofs.pg_run.Frame.{HasCome}
+use Rattle.pg_run.specs.pg_base.declared.id.FileId.{FileId}
+use Rattle.pg_run.specs.pg_base.declared.stamp.Stamp.{Stamp}
+use Rattle.pg_run.specs.pg_entries.declared.cell.Cell.{Cell}
+use Rattle.pg_run.specs.pg_entries.declared.entry.Entry.{Entry}
+use Rattle.pg_run.specs.pg_event.declared.event.Event.{Event}
+use Rattle.pg_run.specs.theory_flood.World.{after}
+use Rattle.pg_run.proofs.theory_flood.Flood.{after_itself, here}
+use Rattle.pg_run.specs.pg_intent.declared.intent.Intent.{Intent}
+use Rattle.pg_run.specs.pg_intent.declared.key.IntentKey.{IntentKey}
+use Rattle.pg_run.specs.pg_intent.Intents.{intent_at}
+use Rattle.pg_run.specs.pg_msg.declared.message.Ends.{Ends}
+use Rattle.pg_run.specs.pg_msg.declared.message.Granted.{Granted}
+use Rattle.pg_run.specs.pg_msg.declared.message.Message.{Message}
+use Rattle.pg_run.specs.pg_msg.declared.message.Message.TheVariants as message
+use Rattle.pg_run.specs.pg_msg.declared.message.Packet.{Packet}
+use Rattle.pg_run.specs.pg_msg.declared.message.Sent.{Sent}
+use Rattle.pg_run.specs.pg_calls.Making.{drawn}
+use Rattle.pg_run.proofs.pg_house.Lasting.{drawn_late}
+use Rattle.pg_run.specs.pg_names.Names.{NamesValue, is_dir}
+use Rattle.pg_run.specs.pg_register.declared.place.Place.{Place}
+use Rattle.pg_run.specs.pg_store.declared.store.Store.{Store}
+use Rattle.pg_run.specs.pg_store.Seen.{removed_of, view_of}
+use Rattle.pg_run.specs.pg_store.Together.{BirthsMove}
+use Rattle.pg_run.proofs.pg_store.Over.{moves_then}
+use Rattle.pg_run.specs.pg_cells.Sending.{Wanted, cells_where}
+use Rattle.pg_run.specs.pg_intentions.Intending.{pieces}
+use Rattle.pg_run.specs.pg_intentions.Requests.{asks}
+use Rattle.pg_run.specs.pg_server.declared.input.Input.{Input}
+use Rattle.pg_run.specs.pg_server.declared.input.Input.TheVariants as input
+use Rattle.pg_run.specs.pg_server.Local.{effect, first_effect, is_heard}
+use Rattle.pg_run.specs.theory_flood_pieces.Growing.{Grows}
+use Rattle.pg_run.specs.Journal.{mail}
+use Rattle.pg_run.specs.Laws.{TakesIn}
+use Rattle.pg_run.specs.Run.{Step, World, effect_step, idle_step, next, run_from, world_after}
+use Rattle.pg_run.specs.Views.{IsInView, removed_by}
+use Rattle.pg_run.proofs.Frame.{HasCome}
 use Rattle.law_full.proofs.Acting.{next_by, runs_keep}
 use Rattle.law_full.proofs.Sends.{effect_sends}
 use Rattle.law_full.proofs.Told.{asks_are}

@@ -7,34 +7,34 @@ use Rattle.std.specs.Map.{keys_of}
 use Rattle.std.proofs.lemmas.Bool.{false≢true, or_parts}
 use Rattle.std.proofs.lemmas.List.Elements.{All-contains_itself, All-weaker}
 use Rattle.std.proofs.lemmas.Option.{none-some, same_Some}
-use Rattle.law_full.specs.pg_base.declared.id.FileId.{FileId}
-use Rattle.law_full.specs.pg_edges.declared.edge.Edge.{Edge}
-use Rattle.law_full.specs.pg_edges.declared.key.Key.{Key}
-use Rattle.law_full.specs.pg_edges.declared.key.Key.TheVariants as key
-use Rattle.law_full.specs.pg_edges.Key.{is_entry, is_same_key}
-use Rattle.law_full.specs.pg_edges.Keys.{has_entry, tag_in}
-use Rattle.law_full.proofs.pg_edges.Orders.{is_same_key-true}
-use Rattle.law_full.specs.pg_entries.declared.cell.Cell.{Cell}
-use Rattle.law_full.specs.pg_entries.declared.cell.Cell.TheVariants as cell
-use Rattle.law_full.specs.pg_entries.declared.entry.Entry.{Entry}
-use Rattle.law_full.specs.pg_msg.declared.message.Ends.{Ends}
-use Rattle.law_full.specs.pg_msg.declared.message.Message.TheVariants as message
-use Rattle.law_full.specs.pg_msg.declared.message.Sent.{Sent}
-use Rattle.law_full.specs.pg_names.Names.{cell_at as entry_at, is_dir, own_or_blank}
-use Rattle.law_full.specs.pg_register.declared.place.Place.{Place}
-use Rattle.law_full.specs.pg_replica.declared.replica.Replica.{Replica}
-use Rattle.law_full.specs.pg_store.declared.store.Store.{Store}
-use Rattle.law_full.specs.pg_store.Cells.{cell_at, entry_cell, is_sure}
-use Rattle.law_full.specs.pg_store.Seen.{view_of}
-use Rattle.law_full.specs.pg_store.Store.{replica_at}
-use Rattle.law_full.specs.pg_cells.Sending.{Wanted, cells_where, waits}
-use Rattle.law_full.specs.theory_flood_pieces.Names.{IsEntryKnownBy}
-use Rattle.law_full.specs.theory_flood_pieces.UpTo.{IsUpTo}
-use Rattle.law_full.specs.theory_flood_pieces.Whole.{AreByChild, IsWhole}
-use Rattle.law_full.proofs.theory_flood_pieces.Found.{entries_known}
-use Rattle.law_full.proofs.theory_flood_pieces.Sending.{own_key}
-use Rattle.law_full.specs.pg_run.Run.{World}
-use Rattle.law_full.proofs.pg_run.Event.{CellHas, cells_have}
+use Rattle.pg_run.specs.pg_base.declared.id.FileId.{FileId}
+use Rattle.pg_run.specs.pg_edges.declared.edge.Edge.{Edge}
+use Rattle.pg_run.specs.pg_edges.declared.key.Key.{Key}
+use Rattle.pg_run.specs.pg_edges.declared.key.Key.TheVariants as key
+use Rattle.pg_run.specs.pg_edges.Key.{is_entry, is_same_key}
+use Rattle.pg_run.specs.pg_edges.Keys.{has_entry, tag_in}
+use Rattle.pg_run.proofs.pg_edges.Orders.{is_same_key-true}
+use Rattle.pg_run.specs.pg_entries.declared.cell.Cell.{Cell}
+use Rattle.pg_run.specs.pg_entries.declared.cell.Cell.TheVariants as cell
+use Rattle.pg_run.specs.pg_entries.declared.entry.Entry.{Entry}
+use Rattle.pg_run.specs.pg_msg.declared.message.Ends.{Ends}
+use Rattle.pg_run.specs.pg_msg.declared.message.Message.TheVariants as message
+use Rattle.pg_run.specs.pg_msg.declared.message.Sent.{Sent}
+use Rattle.pg_run.specs.pg_names.Names.{cell_at as entry_at, is_dir, own_or_blank}
+use Rattle.pg_run.specs.pg_register.declared.place.Place.{Place}
+use Rattle.pg_run.specs.pg_replica.declared.replica.Replica.{Replica}
+use Rattle.pg_run.specs.pg_store.declared.store.Store.{Store}
+use Rattle.pg_run.specs.pg_store.Cells.{cell_at, entry_cell, is_sure}
+use Rattle.pg_run.specs.pg_store.Seen.{view_of}
+use Rattle.pg_run.specs.pg_store.Store.{replica_at}
+use Rattle.pg_run.specs.pg_cells.Sending.{Wanted, cells_where, waits}
+use Rattle.pg_run.specs.theory_flood_pieces.Names.{IsEntryKnownBy}
+use Rattle.pg_run.specs.theory_flood_pieces.UpTo.{IsUpTo}
+use Rattle.pg_run.specs.theory_flood_pieces.Whole.{AreByChild, IsWhole}
+use Rattle.pg_run.proofs.theory_flood_pieces.Found.{entries_known}
+use Rattle.pg_run.proofs.theory_flood_pieces.Sending.{own_key}
+use Rattle.pg_run.specs.Run.{World}
+use Rattle.pg_run.proofs.Event.{CellHas, cells_have}
 use Rattle.law_full.proofs.Clean.{among_of}
 use Rattle.law_full.proofs.Filling.{AckedIn}
 use Rattle.law_full.proofs.Told.{told_whole}

@@ -5,38 +5,38 @@ use Rattle.std.proofs.Math.Seq.{drop-append_seam}
 use Rattle.std.proofs.lemmas.List.{append-nil, append_assoc}
 use Rattle.std.proofs.lemmas.List.Elements.{All-append, All-cons, All-nil}
 use Rattle.std.proofs.lemmas.Option.{none-some}
-use Rattle.law_full.specs.pg_base.declared.id.FileId.{FileId}
-use Rattle.law_full.specs.pg_register.declared.flag.Flag.{Flag}
-use Rattle.law_full.specs.pg_register.declared.place.Place.{Place}
-use Rattle.law_full.specs.pg_register.Place.{root, tilde_name}
-use Rattle.law_full.specs.pg_edges.declared.key.Key.TheVariants as key
-use Rattle.law_full.specs.pg_call.declared.reply.Reply.{Reply}
-use Rattle.law_full.specs.pg_msg.declared.update.Update.{Update}
-use Rattle.law_full.specs.pg_msg.declared.update.Update.TheVariants as update
-use Rattle.law_full.specs.pg_msg.declared.work.Work.{Work}
-use Rattle.law_full.specs.pg_msg.Work.{with_made, with_touched}
-use Rattle.law_full.specs.pg_names.Names.{directories, is_dir}
-use Rattle.law_full.specs.pg_house.Cycles.{break_first, first_moving, moved}
-use Rattle.law_full.specs.pg_house.Facts.{is_among}
-use Rattle.law_full.specs.pg_house.House.{house, movable}
-use Rattle.law_full.specs.pg_house.Passing.{pass, pass_all}
-use Rattle.law_full.specs.pg_house.Placing.{drawn, live_place, made_at, place_at, placed}
-use Rattle.law_full.specs.pg_house.Returning.{first_returning, is_returning, return_first, returned}
-use Rattle.law_full.specs.pg_house.Work.{State, state_of}
-use Rattle.law_full.proofs.pg_house.AllClimb.{IsDeep, member_deep, moving_member}
-use Rattle.law_full.proofs.pg_house.Counting.{find_found, kept_dir}
-use Rattle.law_full.proofs.pg_house.NoCycles.{inner_parts, some_dirs}
-use Rattle.law_full.proofs.pg_house.Repeating.{repeated_keeps}
-use Rattle.law_full.proofs.pg_house.Made.{left_made, pass_made}
-use Rattle.law_full.specs.pg_store.declared.store.Store.{Store}
-use Rattle.law_full.specs.pg_pieces.Done.{Done}
-use Rattle.law_full.specs.pg_cells.Settling.{settle}
-use Rattle.law_full.proofs.pg_intentions.Steady.{begin_end_stays}
-use Rattle.law_full.specs.pg_server.declared.input.Input.{Input}
-use Rattle.law_full.specs.pg_server.Local.{Effect, closed, finished, first_effect, reply_to, settled, takes_effect}
-use Rattle.law_full.proofs.theory_flood_pieces.Choices.{chosen}
+use Rattle.pg_run.specs.pg_base.declared.id.FileId.{FileId}
+use Rattle.pg_run.specs.pg_register.declared.flag.Flag.{Flag}
+use Rattle.pg_run.specs.pg_register.declared.place.Place.{Place}
+use Rattle.pg_run.specs.pg_register.Place.{root, tilde_name}
+use Rattle.pg_run.specs.pg_edges.declared.key.Key.TheVariants as key
+use Rattle.pg_run.specs.pg_call.declared.reply.Reply.{Reply}
+use Rattle.pg_run.specs.pg_msg.declared.update.Update.{Update}
+use Rattle.pg_run.specs.pg_msg.declared.update.Update.TheVariants as update
+use Rattle.pg_run.specs.pg_msg.declared.work.Work.{Work}
+use Rattle.pg_run.specs.pg_msg.Work.{with_made, with_touched}
+use Rattle.pg_run.specs.pg_names.Names.{directories, is_dir}
+use Rattle.pg_run.specs.pg_house.Cycles.{break_first, first_moving, moved}
+use Rattle.pg_run.specs.pg_house.Facts.{is_among}
+use Rattle.pg_run.specs.pg_house.House.{house, movable}
+use Rattle.pg_run.specs.pg_house.Passing.{pass, pass_all}
+use Rattle.pg_run.specs.pg_house.Placing.{drawn, live_place, made_at, place_at, placed}
+use Rattle.pg_run.specs.pg_house.Returning.{first_returning, is_returning, return_first, returned}
+use Rattle.pg_run.specs.pg_house.Work.{State, state_of}
+use Rattle.pg_run.proofs.pg_house.AllClimb.{IsDeep, member_deep, moving_member}
+use Rattle.pg_run.proofs.pg_house.Counting.{find_found, kept_dir}
+use Rattle.pg_run.proofs.pg_house.NoCycles.{inner_parts, some_dirs}
+use Rattle.pg_run.proofs.pg_house.Repeating.{repeated_keeps}
+use Rattle.pg_run.proofs.pg_house.Made.{left_made, pass_made}
+use Rattle.pg_run.specs.pg_store.declared.store.Store.{Store}
+use Rattle.pg_run.specs.pg_pieces.Done.{Done}
+use Rattle.pg_run.specs.pg_cells.Settling.{settle}
+use Rattle.pg_run.proofs.pg_intentions.Steady.{begin_end_stays}
+use Rattle.pg_run.specs.pg_server.declared.input.Input.{Input}
+use Rattle.pg_run.specs.pg_server.Local.{Effect, closed, finished, first_effect, reply_to, settled, takes_effect}
+use Rattle.pg_run.proofs.theory_flood_pieces.Choices.{chosen}
 use Rattle.law_full.proofs.Works.{IsClosed, settled_sends}
-use Rattle.law_full.specs.pg_run.Run.{first_made, made_behind}
+use Rattle.pg_run.specs.Run.{first_made, made_behind}
 
 -- where an update is a place, it is a live one of a directory
 abbrev pub IsLiveOfDir : Update → Type 0

@@ -4,36 +4,36 @@ use Rattle.std.specs.List.{flat_map}
 use Rattle.std.proofs.lemmas.Bool.{false≢true, and_from, or_left, or_right}
 use Rattle.std.proofs.lemmas.Grind.{flat_map-append}
 use Rattle.std.proofs.lemmas.Option.{none-some, same_Some, slice_get_within}
-use Rattle.law_full.specs.pg_base.declared.id.FileId.{FileId}
-use Rattle.law_full.specs.pg_base.Id.{is_same_file}
-use Rattle.law_full.specs.pg_base.Stamp.{is_before}
-use Rattle.law_full.proofs.pg_base.Orders.{UpTo-refl, UpTo-same, UpTo-trans, is_same_file-refl}
-use Rattle.law_full.specs.pg_content.Content.{Among}
-use Rattle.law_full.specs.pg_entries.declared.entry.Entry.{Entry}
-use Rattle.law_full.specs.pg_msg.declared.update.Update.{Update}
-use Rattle.law_full.specs.pg_msg.declared.update.Update.TheVariants as update
-use Rattle.law_full.specs.pg_names.Names.{cell_at, is_dir}
-use Rattle.law_full.specs.pg_register.declared.place.Place.{Place}
-use Rattle.law_full.specs.pg_register.Flag.{is_removed}
-use Rattle.law_full.specs.pg_register.Place.{newer_place}
-use Rattle.law_full.specs.pg_store.declared.store.Store.{Store}
-use Rattle.law_full.specs.pg_server.declared.input.Input.{Input}
-use Rattle.law_full.specs.pg_server.Local.{first_effect, takes_effect}
-use Rattle.law_full.specs.theory_flood_pieces.Names.{IsEntryKnownBy}
-use Rattle.law_full.specs.theory_flood_pieces.UpTo.{IsPlaceUpTo}
-use Rattle.law_full.proofs.theory_flood_pieces.Flags.{newer_of_both}
-use Rattle.law_full.specs.pg_run.Asking.{Asked}
-use Rattle.law_full.specs.pg_run.Laws.{NamesMerge, ReturnsAreJustified, took_behind}
-use Rattle.law_full.specs.pg_run.Passed.{has_cell, has_taken, passed, passed_with, passes}
-use Rattle.law_full.specs.pg_run.Carried.{gone_in}
-use Rattle.law_full.specs.pg_run.Run.{brought, made_behind, removed_then, run, took_first}
-use Rattle.law_full.specs.pg_run.State.{entry_state}
-use Rattle.law_full.specs.pg_run.Took.{Take, Taker, first_place, flags_in, held, is_same_taker, latest_place, own_place, place_in, place_taken_by, places_taken, take_of, without_gone}
-use Rattle.law_full.specs.pg_run.Took.Take.{Began, TookFlag, TookPlace, TookVersion}
-use Rattle.law_full.specs.pg_run.Took.Taker.{InDir}
-use Rattle.law_full.proofs.pg_run.Bags.{found}
-use Rattle.law_full.proofs.pg_run.Frame.{acts_is}
-use Rattle.law_full.proofs.pg_run.Lists.{among_contained, among_parts, contained_among}
+use Rattle.pg_run.specs.pg_base.declared.id.FileId.{FileId}
+use Rattle.pg_run.specs.pg_base.Id.{is_same_file}
+use Rattle.pg_run.specs.pg_base.Stamp.{is_before}
+use Rattle.pg_run.proofs.pg_base.Orders.{UpTo-refl, UpTo-same, UpTo-trans, is_same_file-refl}
+use Rattle.pg_run.specs.pg_content.Content.{Among}
+use Rattle.pg_run.specs.pg_entries.declared.entry.Entry.{Entry}
+use Rattle.pg_run.specs.pg_msg.declared.update.Update.{Update}
+use Rattle.pg_run.specs.pg_msg.declared.update.Update.TheVariants as update
+use Rattle.pg_run.specs.pg_names.Names.{cell_at, is_dir}
+use Rattle.pg_run.specs.pg_register.declared.place.Place.{Place}
+use Rattle.pg_run.specs.pg_register.Flag.{is_removed}
+use Rattle.pg_run.specs.pg_register.Place.{newer_place}
+use Rattle.pg_run.specs.pg_store.declared.store.Store.{Store}
+use Rattle.pg_run.specs.pg_server.declared.input.Input.{Input}
+use Rattle.pg_run.specs.pg_server.Local.{first_effect, takes_effect}
+use Rattle.pg_run.specs.theory_flood_pieces.Names.{IsEntryKnownBy}
+use Rattle.pg_run.specs.theory_flood_pieces.UpTo.{IsPlaceUpTo}
+use Rattle.pg_run.proofs.theory_flood_pieces.Flags.{newer_of_both}
+use Rattle.pg_run.specs.Asking.{Asked}
+use Rattle.pg_run.specs.Laws.{NamesMerge, ReturnsAreJustified, took_behind}
+use Rattle.pg_run.specs.Passed.{has_cell, has_taken, passed, passed_with, passes}
+use Rattle.pg_run.specs.Carried.{gone_in}
+use Rattle.pg_run.specs.Run.{brought, made_behind, removed_then, run, took_first}
+use Rattle.pg_run.specs.State.{entry_state}
+use Rattle.pg_run.specs.Took.{Take, Taker, first_place, flags_in, held, is_same_taker, latest_place, own_place, place_in, place_taken_by, places_taken, take_of, without_gone}
+use Rattle.pg_run.specs.Took.Take.{Began, TookFlag, TookPlace, TookVersion}
+use Rattle.pg_run.specs.Took.Taker.{InDir}
+use Rattle.pg_run.proofs.Bags.{found}
+use Rattle.pg_run.proofs.Frame.{acts_is}
+use Rattle.pg_run.proofs.Lists.{among_contained, among_parts, contained_among}
 use Rattle.law_returns.specs.Gate.{EdgesAreKept, IsStillThere, KnowsChildren, Removes, place_at}
 use Rattle.law_returns.specs.Returns.{DeadPlacesStay, TakesHaveOwnStamps}
 use Rattle.law_returns.proofs.Begun.{begins, gated_behind, is_late, removed_are_empty, stands_all}

@@ -2,23 +2,23 @@
 use Rattle.std.proofs.Common.{ℕ, ◌≡◌, ◌≤◌, ◌<◌, ◌⊎◌, arith, true, false, Option, None, Some, is_some, option_map, eq-eqb, refl, sym, ap, subst, ◌∙◌, inl, inr}
 use Rattle.std.proofs.lemmas.Bool.{false≢true}
 use Rattle.std.proofs.lemmas.Option.{none-some, same_Some}
-use Rattle.law_full.specs.pg_base.declared.id.FileId.{FileId}
-use Rattle.law_full.specs.pg_entries.declared.entry.Entry.{Entry}
-use Rattle.law_full.proofs.theory_flood.Flood.{here}
-use Rattle.law_full.specs.pg_names.Names.{InodeValue, NamesValue, cell_at, entry_in, known as names_known, or_blank, own_of}
-use Rattle.law_full.specs.pg_register.declared.place.Place.{Place}
-use Rattle.law_full.specs.pg_register.Place.{blank_place}
-use Rattle.law_full.specs.pg_replica.declared.replica.Replica.{Replica}
-use Rattle.law_full.specs.pg_replica.Replicas.{is_of_birth}
-use Rattle.law_full.specs.pg_store.declared.store.Store.{Store}
-use Rattle.law_full.specs.pg_store.Births.{has_birth}
-use Rattle.law_full.specs.pg_store.Store.{is_held, replica_at}
-use Rattle.law_full.specs.pg_store.Together.{AreTogether, BirthsMove, IsOver, birth_at}
-use Rattle.law_full.proofs.pg_store.Over.{over_stays}
-use Rattle.law_full.specs.theory_flood_pieces.Growing.{Grows}
-use Rattle.law_full.specs.theory_flood_pieces.Names.{AreNamesUpTo, IsEntryKnownBy}
-use Rattle.law_full.proofs.theory_flood_pieces.Growth.{entry_known_further}
-use Rattle.law_full.specs.pg_run.Births.{StaysOrGoes}
+use Rattle.pg_run.specs.pg_base.declared.id.FileId.{FileId}
+use Rattle.pg_run.specs.pg_entries.declared.entry.Entry.{Entry}
+use Rattle.pg_run.proofs.theory_flood.Flood.{here}
+use Rattle.pg_run.specs.pg_names.Names.{InodeValue, NamesValue, cell_at, entry_in, known as names_known, or_blank, own_of}
+use Rattle.pg_run.specs.pg_register.declared.place.Place.{Place}
+use Rattle.pg_run.specs.pg_register.Place.{blank_place}
+use Rattle.pg_run.specs.pg_replica.declared.replica.Replica.{Replica}
+use Rattle.pg_run.specs.pg_replica.Replicas.{is_of_birth}
+use Rattle.pg_run.specs.pg_store.declared.store.Store.{Store}
+use Rattle.pg_run.specs.pg_store.Births.{has_birth}
+use Rattle.pg_run.specs.pg_store.Store.{is_held, replica_at}
+use Rattle.pg_run.specs.pg_store.Together.{AreTogether, BirthsMove, IsOver, birth_at}
+use Rattle.pg_run.proofs.pg_store.Over.{over_stays}
+use Rattle.pg_run.specs.theory_flood_pieces.Growing.{Grows}
+use Rattle.pg_run.specs.theory_flood_pieces.Names.{AreNamesUpTo, IsEntryKnownBy}
+use Rattle.pg_run.proofs.theory_flood_pieces.Growth.{entry_known_further}
+use Rattle.pg_run.specs.Births.{StaysOrGoes}
 use Rattle.law_returns.specs.Gate.{KnowsChildren, KnowsOrOver, place_at}
 
 -- what is known of children stays known

@@ -1,33 +1,33 @@
 -- The greatest time of a server never falls, and who is removed in its view stays so.
 use Rattle.std.proofs.Common.{ℕ, ◌≡◌, ◌==◌, ◌||◌, ◌≤◌, ◌+◌, ◌++◌, ◌∷◌, ◌^◌, max, min, List, [], length, Bool, true, false, Option, None, Some, refl, sym, ap, ◌∙◌, arith}
 use Rattle.std.proofs.lemmas.Bool.{false≢true}
-use Rattle.law_full.specs.pg_base.declared.id.FileId.{FileId}
-use Rattle.law_full.specs.pg_register.declared.place.Place.{Place}
-use Rattle.law_full.specs.pg_register.Flag.{is_removed}
-use Rattle.law_full.specs.pg_register.Place.{root, tilde_name}
-use Rattle.law_full.specs.pg_msg.declared.work.Work.{Work}
-use Rattle.law_full.specs.pg_msg.Work.{new_work}
-use Rattle.law_full.specs.pg_names.declared.attributes.Attributes.{Attributes}
-use Rattle.law_full.specs.pg_names.Names.{InodeValue, NamesValue, blank_own, directories, fill, filled, join_entry, join_flag, join_place, let_go, update, with_flag, with_joined, with_place}
-use Rattle.law_full.proofs.pg_names.Lookups.{update_frame}
-use Rattle.law_full.specs.pg_house.Cycles.{break_first, first_moving, moved}
-use Rattle.law_full.specs.pg_house.House.{house, movable}
-use Rattle.law_full.specs.pg_house.Passing.{pass_all}
-use Rattle.law_full.specs.pg_house.Placing.{drawn, place_at, placed}
-use Rattle.law_full.specs.pg_house.Returning.{first_returning, return_first, returned}
-use Rattle.law_full.specs.pg_house.Work.{State, state_of}
-use Rattle.law_full.proofs.pg_house.Lasting.{pass_all_last, placed_last}
-use Rattle.law_full.proofs.pg_house.Repeating.{repeated_keeps}
-use Rattle.law_full.specs.pg_store.declared.store.Store.{Store}
-use Rattle.law_full.specs.pg_store.Births.{draw_birth, with_birth}
-use Rattle.law_full.specs.pg_store.Seen.{removed_of}
-use Rattle.law_full.specs.pg_store.Store.{take_place}
-use Rattle.law_full.specs.pg_pieces.Making.{own_next}
-use Rattle.law_full.specs.pg_calls.Naming.{begun, next_id, place_in, with_id}
-use Rattle.law_full.specs.pg_server.declared.input.Input.{Input}
-use Rattle.law_full.specs.pg_server.declared.input.Input.TheVariants as input
-use Rattle.law_full.specs.pg_server.Local.{effect, first_effect}
-use Rattle.law_full.proofs.pg_run.Ticked.{tick_store}
+use Rattle.pg_run.specs.pg_base.declared.id.FileId.{FileId}
+use Rattle.pg_run.specs.pg_register.declared.place.Place.{Place}
+use Rattle.pg_run.specs.pg_register.Flag.{is_removed}
+use Rattle.pg_run.specs.pg_register.Place.{root, tilde_name}
+use Rattle.pg_run.specs.pg_msg.declared.work.Work.{Work}
+use Rattle.pg_run.specs.pg_msg.Work.{new_work}
+use Rattle.pg_run.specs.pg_names.declared.attributes.Attributes.{Attributes}
+use Rattle.pg_run.specs.pg_names.Names.{InodeValue, NamesValue, blank_own, directories, fill, filled, join_entry, join_flag, join_place, let_go, update, with_flag, with_joined, with_place}
+use Rattle.pg_run.proofs.pg_names.Lookups.{update_frame}
+use Rattle.pg_run.specs.pg_house.Cycles.{break_first, first_moving, moved}
+use Rattle.pg_run.specs.pg_house.House.{house, movable}
+use Rattle.pg_run.specs.pg_house.Passing.{pass_all}
+use Rattle.pg_run.specs.pg_house.Placing.{drawn, place_at, placed}
+use Rattle.pg_run.specs.pg_house.Returning.{first_returning, return_first, returned}
+use Rattle.pg_run.specs.pg_house.Work.{State, state_of}
+use Rattle.pg_run.proofs.pg_house.Lasting.{pass_all_last, placed_last}
+use Rattle.pg_run.proofs.pg_house.Repeating.{repeated_keeps}
+use Rattle.pg_run.specs.pg_store.declared.store.Store.{Store}
+use Rattle.pg_run.specs.pg_store.Births.{draw_birth, with_birth}
+use Rattle.pg_run.specs.pg_store.Seen.{removed_of}
+use Rattle.pg_run.specs.pg_store.Store.{take_place}
+use Rattle.pg_run.specs.pg_pieces.Making.{own_next}
+use Rattle.pg_run.specs.pg_calls.Naming.{begun, next_id, place_in, with_id}
+use Rattle.pg_run.specs.pg_server.declared.input.Input.{Input}
+use Rattle.pg_run.specs.pg_server.declared.input.Input.TheVariants as input
+use Rattle.pg_run.specs.pg_server.Local.{effect, first_effect}
+use Rattle.pg_run.proofs.Ticked.{tick_store}
 use Rattle.law_full.proofs.Calling.{CallsKeep, call_kept}
 use Rattle.law_full.proofs.Coming.{receive_kept}
 use Rattle.law_full.proofs.Effects.{arrival_kept, effect_kept}

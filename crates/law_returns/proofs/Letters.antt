@@ -4,44 +4,44 @@ use Rattle.std.specs.Prelude.{Contains}
 use Rattle.std.proofs.lemmas.Bool.{false≢true, or_left, or_right}
 use Rattle.std.proofs.lemmas.List.Elements.{All-append, All-contains_itself, All-nil, All-weaker}
 use Rattle.std.proofs.lemmas.Option.{none-some, same_Some}
-use Rattle.law_full.specs.pg_base.declared.id.FileId.{FileId}
-use Rattle.law_full.specs.pg_content.Content.{Among}
-use Rattle.law_full.specs.pg_entries.declared.cell.Cell.{Cell}
-use Rattle.law_full.specs.pg_entries.declared.entry.Entry.{Entry}
-use Rattle.law_full.specs.pg_entries.Entry.{is_listed}
-use Rattle.law_full.specs.pg_event.declared.event.Event.{Event}
-use Rattle.law_full.proofs.theory_flood.Flood.{after_itself}
-use Rattle.law_full.specs.pg_intent.declared.intent.Intent.{Intent}
-use Rattle.law_full.specs.pg_intent.declared.key.IntentKey.{IntentKey}
-use Rattle.law_full.specs.pg_intent.declared.key.IntentKey.TheVariants as intent_key
-use Rattle.law_full.specs.pg_intent.Intent.{key_of}
-use Rattle.law_full.specs.pg_intent.Intents.{has_key, intent_at, stands}
-use Rattle.law_full.proofs.pg_intent.SameKey.{is_same_key-refl}
-use Rattle.law_full.specs.pg_msg.declared.message.Ends.{Ends}
-use Rattle.law_full.specs.pg_msg.declared.message.Granted.{Granted}
-use Rattle.law_full.specs.pg_msg.declared.message.Message.{Message}
-use Rattle.law_full.specs.pg_msg.declared.message.Message.TheVariants as message
-use Rattle.law_full.specs.pg_msg.declared.message.Sent.{Sent}
-use Rattle.law_full.specs.pg_names.declared.attributes.Attributes.{Attributes}
-use Rattle.law_full.specs.pg_names.Names.{cell_at, is_dir}
-use Rattle.law_full.specs.pg_register.declared.place.Place.{Place}
-use Rattle.law_full.specs.pg_register.Place.{blank_place}
-use Rattle.law_full.specs.pg_replica.declared.replica.Replica.{Replica}
-use Rattle.law_full.specs.pg_store.declared.store.Store.{Store}
-use Rattle.law_full.specs.pg_repair.Fetching.{granted_from, place_to_grant}
-use Rattle.law_full.specs.pg_intentions.Intending.{pieces}
-use Rattle.law_full.specs.pg_intentions.Requests.{asks}
-use Rattle.law_full.specs.pg_server.declared.input.Input.{Input}
-use Rattle.law_full.specs.pg_server.Local.{effect, first_effect}
-use Rattle.law_full.specs.theory_flood_pieces.Whole.{IsWhole}
-use Rattle.law_full.specs.pg_run.Intending.{ConfirmsStand, IntendsInOrder}
-use Rattle.law_full.specs.pg_run.Journal.{mail}
-use Rattle.law_full.specs.pg_run.Births.{StaysOrGoes}
-use Rattle.law_full.specs.pg_run.Known.{WasMade}
-use Rattle.law_full.specs.pg_run.Laws.{AtEach, TakesIn}
-use Rattle.law_full.specs.pg_run.Run.{World, next, run, start, world_after}
-use Rattle.law_full.specs.pg_run.Views.{IsInView}
-use Rattle.law_full.proofs.pg_run.Lists.{contained_among}
+use Rattle.pg_run.specs.pg_base.declared.id.FileId.{FileId}
+use Rattle.pg_run.specs.pg_content.Content.{Among}
+use Rattle.pg_run.specs.pg_entries.declared.cell.Cell.{Cell}
+use Rattle.pg_run.specs.pg_entries.declared.entry.Entry.{Entry}
+use Rattle.pg_run.specs.pg_entries.Entry.{is_listed}
+use Rattle.pg_run.specs.pg_event.declared.event.Event.{Event}
+use Rattle.pg_run.proofs.theory_flood.Flood.{after_itself}
+use Rattle.pg_run.specs.pg_intent.declared.intent.Intent.{Intent}
+use Rattle.pg_run.specs.pg_intent.declared.key.IntentKey.{IntentKey}
+use Rattle.pg_run.specs.pg_intent.declared.key.IntentKey.TheVariants as intent_key
+use Rattle.pg_run.specs.pg_intent.Intent.{key_of}
+use Rattle.pg_run.specs.pg_intent.Intents.{has_key, intent_at, stands}
+use Rattle.pg_run.proofs.pg_intent.SameKey.{is_same_key-refl}
+use Rattle.pg_run.specs.pg_msg.declared.message.Ends.{Ends}
+use Rattle.pg_run.specs.pg_msg.declared.message.Granted.{Granted}
+use Rattle.pg_run.specs.pg_msg.declared.message.Message.{Message}
+use Rattle.pg_run.specs.pg_msg.declared.message.Message.TheVariants as message
+use Rattle.pg_run.specs.pg_msg.declared.message.Sent.{Sent}
+use Rattle.pg_run.specs.pg_names.declared.attributes.Attributes.{Attributes}
+use Rattle.pg_run.specs.pg_names.Names.{cell_at, is_dir}
+use Rattle.pg_run.specs.pg_register.declared.place.Place.{Place}
+use Rattle.pg_run.specs.pg_register.Place.{blank_place}
+use Rattle.pg_run.specs.pg_replica.declared.replica.Replica.{Replica}
+use Rattle.pg_run.specs.pg_store.declared.store.Store.{Store}
+use Rattle.pg_run.specs.pg_repair.Fetching.{granted_from, place_to_grant}
+use Rattle.pg_run.specs.pg_intentions.Intending.{pieces}
+use Rattle.pg_run.specs.pg_intentions.Requests.{asks}
+use Rattle.pg_run.specs.pg_server.declared.input.Input.{Input}
+use Rattle.pg_run.specs.pg_server.Local.{effect, first_effect}
+use Rattle.pg_run.specs.theory_flood_pieces.Whole.{IsWhole}
+use Rattle.pg_run.specs.Intending.{ConfirmsStand, IntendsInOrder}
+use Rattle.pg_run.specs.Journal.{mail}
+use Rattle.pg_run.specs.Births.{StaysOrGoes}
+use Rattle.pg_run.specs.Known.{WasMade}
+use Rattle.pg_run.specs.Laws.{AtEach, TakesIn}
+use Rattle.pg_run.specs.Run.{World, next, run, start, world_after}
+use Rattle.pg_run.specs.Views.{IsInView}
+use Rattle.pg_run.proofs.Lists.{contained_among}
 use Rattle.law_full.proofs.Acting.{next_by, runs_keep}
 use Rattle.law_full.proofs.Filling.{AckedIn, GrowIn, MoveIn}
 use Rattle.law_full.proofs.Sends.{effect_sends}

@@ -3,29 +3,29 @@
 use Rattle.std.proofs.Common.{ℕ, ◌≡◌, true, false, List, Option, All, refl, sym, ap, subst, ◌∙◌, inl, inr}
 use Rattle.std.proofs.lemmas.Bool.{false≢true}
 use Rattle.std.proofs.lemmas.List.Elements.{All-nil, All-push}
-use Rattle.law_full.specs.pg_base.declared.id.FileId.{FileId}
-use Rattle.law_full.specs.pg_register.declared.flag.Flag.{Flag}
-use Rattle.law_full.specs.pg_register.declared.place.Place.{Place}
-use Rattle.law_full.specs.pg_register.Place.{root}
-use Rattle.law_full.specs.pg_call.declared.reply.Reply.{Reply}
-use Rattle.law_full.specs.pg_msg.declared.message.Message.{Message}
-use Rattle.law_full.specs.pg_msg.declared.update.MadeVersion.{MadeVersion}
-use Rattle.law_full.specs.pg_msg.declared.update.Update.{Update}
-use Rattle.law_full.specs.pg_msg.declared.update.Update.TheVariants as update
-use Rattle.law_full.specs.pg_msg.declared.work.Work.{Work}
-use Rattle.law_full.specs.pg_msg.Work.{new_work}
-use Rattle.law_full.specs.pg_house.Work.{state_of}
-use Rattle.law_full.specs.pg_store.declared.store.Store.{Store}
-use Rattle.law_full.specs.pg_pieces.Done.{Done, idle}
-use Rattle.law_full.specs.pg_cells.Settling.{rules}
-use Rattle.law_full.specs.pg_cells.Ticks.{tick}
-use Rattle.law_full.specs.pg_intentions.Requests.{ask_all}
-use Rattle.law_full.proofs.pg_intentions.Steady.{begin_end_stays}
-use Rattle.law_full.specs.pg_server.declared.input.Input.{Input}
-use Rattle.law_full.specs.pg_server.declared.input.Input.TheVariants as input
-use Rattle.law_full.specs.pg_server.Local.{Effect, closed, effect, finished, first_effect, is_heard, receive, reply_to, settled, takes_effect}
-use Rattle.law_full.proofs.theory_flood_pieces.Choices.{chosen}
-use Rattle.law_full.proofs.pg_run.Ticked.{tick_work}
+use Rattle.pg_run.specs.pg_base.declared.id.FileId.{FileId}
+use Rattle.pg_run.specs.pg_register.declared.flag.Flag.{Flag}
+use Rattle.pg_run.specs.pg_register.declared.place.Place.{Place}
+use Rattle.pg_run.specs.pg_register.Place.{root}
+use Rattle.pg_run.specs.pg_call.declared.reply.Reply.{Reply}
+use Rattle.pg_run.specs.pg_msg.declared.message.Message.{Message}
+use Rattle.pg_run.specs.pg_msg.declared.update.MadeVersion.{MadeVersion}
+use Rattle.pg_run.specs.pg_msg.declared.update.Update.{Update}
+use Rattle.pg_run.specs.pg_msg.declared.update.Update.TheVariants as update
+use Rattle.pg_run.specs.pg_msg.declared.work.Work.{Work}
+use Rattle.pg_run.specs.pg_msg.Work.{new_work}
+use Rattle.pg_run.specs.pg_house.Work.{state_of}
+use Rattle.pg_run.specs.pg_store.declared.store.Store.{Store}
+use Rattle.pg_run.specs.pg_pieces.Done.{Done, idle}
+use Rattle.pg_run.specs.pg_cells.Settling.{rules}
+use Rattle.pg_run.specs.pg_cells.Ticks.{tick}
+use Rattle.pg_run.specs.pg_intentions.Requests.{ask_all}
+use Rattle.pg_run.proofs.pg_intentions.Steady.{begin_end_stays}
+use Rattle.pg_run.specs.pg_server.declared.input.Input.{Input}
+use Rattle.pg_run.specs.pg_server.declared.input.Input.TheVariants as input
+use Rattle.pg_run.specs.pg_server.Local.{Effect, closed, effect, finished, first_effect, is_heard, receive, reply_to, settled, takes_effect}
+use Rattle.pg_run.proofs.theory_flood_pieces.Choices.{chosen}
+use Rattle.pg_run.proofs.Ticked.{tick_work}
 use Rattle.law_full.proofs.HousePlaces.{StaysSo, house_stays}
 use Rattle.law_full.proofs.Called.{IsGoing, call_sends}
 use Rattle.law_full.proofs.Replies.{MayAnswer, receive_sends, tick_sends}

@@ -2,22 +2,22 @@
 use Rattle.std.proofs.Common.{ℕ, ◌≡◌, true, false, List, [], ◌∷◌, take, zero, suc, refl, sym, ◌∙◌, inl, inr}
 use Rattle.std.proofs.lemmas.List.Elements.{All-contains}
 use Rattle.std.proofs.lemmas.Option.{slice_get_within}
-use Rattle.law_full.specs.pg_base.declared.id.FileId.{FileId}
-use Rattle.law_full.specs.pg_content.Content.{Among}
-use Rattle.law_full.specs.pg_register.declared.place.Place.{Place}
-use Rattle.law_full.specs.pg_msg.declared.update.Update.{Update}
-use Rattle.law_full.specs.pg_names.Names.{is_dir, own_or_blank}
-use Rattle.law_full.specs.pg_event.declared.event.Event.{Event}
-use Rattle.law_full.specs.pg_store.declared.store.Store.{Store}
-use Rattle.law_full.specs.pg_server.declared.input.Input.{Input}
-use Rattle.law_full.specs.pg_server.Local.{first_effect, takes_effect}
-use Rattle.law_full.specs.pg_run.Asking.{Asked}
-use Rattle.law_full.specs.pg_run.Known.{of_run}
-use Rattle.law_full.specs.pg_run.Laws.{took_behind}
-use Rattle.law_full.specs.pg_run.Run.{Taking, made_behind, removed_then, run, took_first}
-use Rattle.law_full.specs.pg_run.Took.{Take, Taker, own_place, places_taken}
-use Rattle.law_full.proofs.pg_run.Frame.{acts_is}
-use Rattle.law_full.proofs.pg_run.Lists.{among_contained, contained_among}
+use Rattle.pg_run.specs.pg_base.declared.id.FileId.{FileId}
+use Rattle.pg_run.specs.pg_content.Content.{Among}
+use Rattle.pg_run.specs.pg_register.declared.place.Place.{Place}
+use Rattle.pg_run.specs.pg_msg.declared.update.Update.{Update}
+use Rattle.pg_run.specs.pg_names.Names.{is_dir, own_or_blank}
+use Rattle.pg_run.specs.pg_event.declared.event.Event.{Event}
+use Rattle.pg_run.specs.pg_store.declared.store.Store.{Store}
+use Rattle.pg_run.specs.pg_server.declared.input.Input.{Input}
+use Rattle.pg_run.specs.pg_server.Local.{first_effect, takes_effect}
+use Rattle.pg_run.specs.Asking.{Asked}
+use Rattle.pg_run.specs.Known.{of_run}
+use Rattle.pg_run.specs.Laws.{took_behind}
+use Rattle.pg_run.specs.Run.{Taking, made_behind, removed_then, run, took_first}
+use Rattle.pg_run.specs.Took.{Take, Taker, own_place, places_taken}
+use Rattle.pg_run.proofs.Frame.{acts_is}
+use Rattle.pg_run.proofs.Lists.{among_contained, contained_among}
 use Rattle.law_returns.specs.Gate.{IsStillThere, place_at}
 use Rattle.law_returns.specs.Returns.{DeadPlacesStay, IsTaken, TakesHaveOwnStamps}
 use Rattle.law_returns.proofs.HouseDirs.{IsLiveOfDir, made_live}
@@ -32,7 +32,7 @@ use Rattle.law_names.proofs.Sources.{takes_apart}
 use Rattle.law_names.proofs.law_passing.DeadPlaces.{IsLiveMade, dead_behind}
 use Rattle.law_names.proofs.law_passing.States.{place_is}
 use Rattle.law_names.proofs.law_passing.Takes.{place_there}
-use Rattle.law_full.specs.pg_run.Took.Taker.{Itself}
+use Rattle.pg_run.specs.Took.Taker.{Itself}
 
 -- ---- in the midst of an event
 

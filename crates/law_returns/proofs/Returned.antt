@@ -1,13 +1,13 @@
 -- Where a directory comes back, each child that it lists has a place that its remover did not know.
 use Rattle.std.proofs.Common.{ℕ, ◌++◌, ◌&&◌, ◌∷◌, Some, sym, ap, subst, ◌∙◌}
 use Rattle.std.proofs.lemmas.Bool.{false≢true}
-use Rattle.law_full.specs.pg_base.Id.{is_same_file}
-use Rattle.law_full.specs.pg_names.Names.{cell_at}
-use Rattle.law_full.specs.pg_register.declared.place.Place.{Place}
-use Rattle.law_full.specs.pg_server.Local.{first_effect}
-use Rattle.law_full.specs.theory_flood_pieces.Names.{IsEntryKnownBy}
-use Rattle.law_full.specs.pg_run.Run.{run}
-use Rattle.law_full.proofs.pg_run.Frame.{acts_is}
+use Rattle.pg_run.specs.pg_base.Id.{is_same_file}
+use Rattle.pg_run.specs.pg_names.Names.{cell_at}
+use Rattle.pg_run.specs.pg_register.declared.place.Place.{Place}
+use Rattle.pg_run.specs.pg_server.Local.{first_effect}
+use Rattle.pg_run.specs.theory_flood_pieces.Names.{IsEntryKnownBy}
+use Rattle.pg_run.specs.Run.{run}
+use Rattle.pg_run.proofs.Frame.{acts_is}
 use Rattle.law_returns.specs.Gate.{EdgesAreKept, KnowsChildren, ReturnsFindNewPlaces}
 use Rattle.law_returns.proofs.Begun.{gated_behind, is_late, removed_are_empty, stands_all}
 use Rattle.law_returns.proofs.Deaths.{IsCaused, first_dead}

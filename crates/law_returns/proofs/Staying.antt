@@ -2,38 +2,38 @@
 -- children is still there.
 use Rattle.std.proofs.Common.{ℕ, ◌≡◌, ◌≤◌, ◌<◌, arith, ◌&&◌, Bool, true, false, cond, not, is_some, List, [], ◌∷◌, drop, length, Option, None, Some, refl, sym, ap, subst, ◌∙◌}
 use Rattle.std.proofs.lemmas.Option.{none-some, same_Some}
-use Rattle.law_full.specs.pg_base.declared.id.FileId.{FileId}
-use Rattle.law_full.specs.pg_base.declared.stamp.Stamp.{Stamp}
-use Rattle.law_full.specs.pg_base.Id.{is_same_file}
-use Rattle.law_full.proofs.pg_base.Orders.{is_same_file-true}
-use Rattle.law_full.specs.pg_edges.declared.edge.Edge.{Edge}
-use Rattle.law_full.specs.pg_msg.declared.message.Ends.{Ends}
-use Rattle.law_full.specs.pg_msg.declared.message.Message.{Message}
-use Rattle.law_full.specs.pg_msg.declared.message.Message.TheVariants as message
-use Rattle.law_full.specs.pg_msg.declared.update.Update.{Update}
-use Rattle.law_full.specs.pg_msg.declared.work.Work.{Work}
-use Rattle.law_full.specs.pg_msg.Work.{new_work}
-use Rattle.law_full.specs.pg_names.Names.{InodeValue, NamesValue, let_go as let_go_names, or_blank, own_of}
-use Rattle.law_full.proofs.pg_names.Gone.{gone_same}
-use Rattle.law_full.specs.pg_register.declared.place.Place.{Place}
-use Rattle.law_full.specs.pg_register.Place.{blank_place}
-use Rattle.law_full.specs.pg_store.declared.store.Store.{Store}
-use Rattle.law_full.specs.pg_store.Beginning.{let_go}
-use Rattle.law_full.specs.pg_store.Births.{birth_of}
-use Rattle.law_full.specs.pg_store.Store.{replica_of}
-use Rattle.law_full.specs.pg_pieces.Done.{Done, idle}
-use Rattle.law_full.specs.pg_pieces.Parting.{stays_for}
-use Rattle.law_full.specs.pg_graph.Leaving.{goes, goes_now, leave_ok, may_leave, without_leave}
-use Rattle.law_full.proofs.pg_graph.LeaveOk.{byes_by}
-use Rattle.law_full.specs.pg_server.declared.input.Input.{Input}
-use Rattle.law_full.specs.pg_server.declared.input.Input.TheVariants as input
-use Rattle.law_full.specs.pg_server.Local.{closed, finished, first_effect, is_heard, receive, reply_to, takes_effect}
-use Rattle.law_full.specs.pg_run.Carried.{gone_by, gone_in}
-use Rattle.law_full.specs.pg_run.Run.{first_made, made_behind}
-use Rattle.law_full.specs.pg_run.Took.{Take, places_taken, without_gone}
-use Rattle.law_full.specs.pg_run.Took.Taker.{InDir}
-use Rattle.law_full.proofs.pg_run.Bags.{All-every}
-use Rattle.law_full.proofs.pg_run.Gone.{places_stay}
+use Rattle.pg_run.specs.pg_base.declared.id.FileId.{FileId}
+use Rattle.pg_run.specs.pg_base.declared.stamp.Stamp.{Stamp}
+use Rattle.pg_run.specs.pg_base.Id.{is_same_file}
+use Rattle.pg_run.proofs.pg_base.Orders.{is_same_file-true}
+use Rattle.pg_run.specs.pg_edges.declared.edge.Edge.{Edge}
+use Rattle.pg_run.specs.pg_msg.declared.message.Ends.{Ends}
+use Rattle.pg_run.specs.pg_msg.declared.message.Message.{Message}
+use Rattle.pg_run.specs.pg_msg.declared.message.Message.TheVariants as message
+use Rattle.pg_run.specs.pg_msg.declared.update.Update.{Update}
+use Rattle.pg_run.specs.pg_msg.declared.work.Work.{Work}
+use Rattle.pg_run.specs.pg_msg.Work.{new_work}
+use Rattle.pg_run.specs.pg_names.Names.{InodeValue, NamesValue, let_go as let_go_names, or_blank, own_of}
+use Rattle.pg_run.proofs.pg_names.Gone.{gone_same}
+use Rattle.pg_run.specs.pg_register.declared.place.Place.{Place}
+use Rattle.pg_run.specs.pg_register.Place.{blank_place}
+use Rattle.pg_run.specs.pg_store.declared.store.Store.{Store}
+use Rattle.pg_run.specs.pg_store.Beginning.{let_go}
+use Rattle.pg_run.specs.pg_store.Births.{birth_of}
+use Rattle.pg_run.specs.pg_store.Store.{replica_of}
+use Rattle.pg_run.specs.pg_pieces.Done.{Done, idle}
+use Rattle.pg_run.specs.pg_pieces.Parting.{stays_for}
+use Rattle.pg_run.specs.pg_graph.Leaving.{goes, goes_now, leave_ok, may_leave, without_leave}
+use Rattle.pg_run.proofs.pg_graph.LeaveOk.{byes_by}
+use Rattle.pg_run.specs.pg_server.declared.input.Input.{Input}
+use Rattle.pg_run.specs.pg_server.declared.input.Input.TheVariants as input
+use Rattle.pg_run.specs.pg_server.Local.{closed, finished, first_effect, is_heard, receive, reply_to, takes_effect}
+use Rattle.pg_run.specs.Carried.{gone_by, gone_in}
+use Rattle.pg_run.specs.Run.{first_made, made_behind}
+use Rattle.pg_run.specs.Took.{Take, places_taken, without_gone}
+use Rattle.pg_run.specs.Took.Taker.{InDir}
+use Rattle.pg_run.proofs.Bags.{All-every}
+use Rattle.pg_run.proofs.Gone.{places_stay}
 use Rattle.law_returns.specs.Gate.{place_at}
 
 -- ---- where nothing takes effect no rule makes anything

@@ -1,38 +1,38 @@
 -- The gate: a server that knows the removal of a directory knows all that its remover knew of its
 -- children. Statements and invariants.
 use Rattle.std.specs.Prelude.{ℕ, ◌≡◌, ◌≢◌, ◌<◌, ◌≤◌, ◌⊎◌, ◌++◌, ◌∷◌, true, false, All, Contains, List, Some, length}
-use Rattle.law_full.specs.pg_base.declared.id.FileId.{FileId}
-use Rattle.law_full.specs.pg_register.declared.place.Place.{Place}
-use Rattle.law_full.specs.pg_register.Flag.{is_removed}
-use Rattle.law_full.specs.pg_register.Place.{blank_place}
-use Rattle.law_full.specs.pg_entries.declared.cell.Cell.TheVariants as cell
-use Rattle.law_full.specs.pg_entries.declared.entry.Entry.{Entry}
-use Rattle.law_full.specs.pg_entries.Entry.{is_listed}
-use Rattle.law_full.specs.pg_event.declared.event.Event.{Event}
-use Rattle.law_full.specs.pg_msg.declared.message.Ends.{Ends}
-use Rattle.law_full.specs.pg_msg.declared.message.Granted.{Granted}
-use Rattle.law_full.specs.pg_msg.declared.message.Message.{Message}
-use Rattle.law_full.specs.pg_msg.declared.message.Message.TheVariants as message
-use Rattle.law_full.specs.pg_msg.declared.message.Sent.{Sent}
-use Rattle.law_full.specs.pg_msg.declared.update.Update.TheVariants as update
-use Rattle.law_full.specs.pg_names.Names.{NamesValue, cell_at, is_dir, own_or_blank}
-use Rattle.law_full.specs.pg_server.declared.input.Input.{Input}
-use Rattle.law_full.specs.pg_server.Local.{first_effect}
-use Rattle.law_full.specs.pg_store.declared.store.Store.{Store}
-use Rattle.law_full.specs.pg_store.Seen.{removed_of}
-use Rattle.law_full.specs.pg_store.Together.{IsOver, birth_at}
-use Rattle.law_full.specs.theory_flood_pieces.Names.{AreNamesUpTo, IsEntryKnownBy}
-use Rattle.law_full.specs.theory_flood_pieces.UpTo.{IsPlaceUpTo}
-use Rattle.law_full.specs.theory_flood_pieces.Whole.{IsWhole}
-use Rattle.law_full.specs.pg_run.Acknowledged.{AcknowledgedKeysAreHad}
-use Rattle.law_full.specs.pg_run.Births.{BirthsMoveInEvents, ReplicasStayOrGo}
-use Rattle.law_full.specs.pg_run.Grown.{EventsGrow}
-use Rattle.law_full.specs.pg_run.Intending.{IntentionsAreInOrder}
-use Rattle.law_full.specs.pg_run.Journal.{mail, removals}
-use Rattle.law_full.specs.pg_run.Known.{PlacesMadeArePast}
-use Rattle.law_full.specs.pg_run.Laws.{AtEach, TakesIn, names_after}
-use Rattle.law_full.specs.pg_run.Run.{World, next, removed_then, run}
-use Rattle.law_full.specs.pg_run.Views.{ViewsArePrefixes, removed_by}
+use Rattle.pg_run.specs.pg_base.declared.id.FileId.{FileId}
+use Rattle.pg_run.specs.pg_register.declared.place.Place.{Place}
+use Rattle.pg_run.specs.pg_register.Flag.{is_removed}
+use Rattle.pg_run.specs.pg_register.Place.{blank_place}
+use Rattle.pg_run.specs.pg_entries.declared.cell.Cell.TheVariants as cell
+use Rattle.pg_run.specs.pg_entries.declared.entry.Entry.{Entry}
+use Rattle.pg_run.specs.pg_entries.Entry.{is_listed}
+use Rattle.pg_run.specs.pg_event.declared.event.Event.{Event}
+use Rattle.pg_run.specs.pg_msg.declared.message.Ends.{Ends}
+use Rattle.pg_run.specs.pg_msg.declared.message.Granted.{Granted}
+use Rattle.pg_run.specs.pg_msg.declared.message.Message.{Message}
+use Rattle.pg_run.specs.pg_msg.declared.message.Message.TheVariants as message
+use Rattle.pg_run.specs.pg_msg.declared.message.Sent.{Sent}
+use Rattle.pg_run.specs.pg_msg.declared.update.Update.TheVariants as update
+use Rattle.pg_run.specs.pg_names.Names.{NamesValue, cell_at, is_dir, own_or_blank}
+use Rattle.pg_run.specs.pg_server.declared.input.Input.{Input}
+use Rattle.pg_run.specs.pg_server.Local.{first_effect}
+use Rattle.pg_run.specs.pg_store.declared.store.Store.{Store}
+use Rattle.pg_run.specs.pg_store.Seen.{removed_of}
+use Rattle.pg_run.specs.pg_store.Together.{IsOver, birth_at}
+use Rattle.pg_run.specs.theory_flood_pieces.Names.{AreNamesUpTo, IsEntryKnownBy}
+use Rattle.pg_run.specs.theory_flood_pieces.UpTo.{IsPlaceUpTo}
+use Rattle.pg_run.specs.theory_flood_pieces.Whole.{IsWhole}
+use Rattle.pg_run.specs.Acknowledged.{AcknowledgedKeysAreHad}
+use Rattle.pg_run.specs.Births.{BirthsMoveInEvents, ReplicasStayOrGo}
+use Rattle.pg_run.specs.Grown.{EventsGrow}
+use Rattle.pg_run.specs.Intending.{IntentionsAreInOrder}
+use Rattle.pg_run.specs.Journal.{mail, removals}
+use Rattle.pg_run.specs.Known.{PlacesMadeArePast}
+use Rattle.pg_run.specs.Laws.{AtEach, TakesIn, names_after}
+use Rattle.pg_run.specs.Run.{World, next, removed_then, run}
+use Rattle.pg_run.specs.Views.{ViewsArePrefixes, removed_by}
 
 -- ---- what it stands on
 

@@ -1,15 +1,15 @@
 -- What justified return stands on, of what servers take, besides the gate.
 use Rattle.std.specs.Prelude.{ℕ, ◌≡◌, ◌⊎◌, true, false, Contains, List, Some, slice_get}
-use Rattle.law_full.specs.pg_base.declared.id.FileId.{FileId}
-use Rattle.law_full.specs.pg_register.declared.place.Place.{Place}
-use Rattle.law_full.specs.pg_event.declared.event.Event.{Event}
-use Rattle.law_full.specs.pg_msg.declared.update.Update.{Update}
-use Rattle.law_full.specs.pg_names.Names.{is_dir}
-use Rattle.law_full.specs.pg_server.declared.input.Input.{Input}
-use Rattle.law_full.specs.pg_server.Local.{first_effect}
-use Rattle.law_full.specs.pg_run.Laws.{AtEach, TakesIn, took_behind}
-use Rattle.law_full.specs.pg_run.Run.{made_behind, removed_then, run}
-use Rattle.law_full.specs.pg_run.Took.{Take, Taker, first_place, own_place, places_taken}
+use Rattle.pg_run.specs.pg_base.declared.id.FileId.{FileId}
+use Rattle.pg_run.specs.pg_register.declared.place.Place.{Place}
+use Rattle.pg_run.specs.pg_event.declared.event.Event.{Event}
+use Rattle.pg_run.specs.pg_msg.declared.update.Update.{Update}
+use Rattle.pg_run.specs.pg_names.Names.{is_dir}
+use Rattle.pg_run.specs.pg_server.declared.input.Input.{Input}
+use Rattle.pg_run.specs.pg_server.Local.{first_effect}
+use Rattle.pg_run.specs.Laws.{AtEach, TakesIn, took_behind}
+use Rattle.pg_run.specs.Run.{made_behind, removed_then, run}
+use Rattle.pg_run.specs.Took.{Take, Taker, first_place, own_place, places_taken}
 use Rattle.law_returns.specs.Gate.{IsStillThere, place_at}
 
 -- ---- no two places of a thing have one stamp

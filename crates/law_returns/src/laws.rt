@@ -4,7 +4,7 @@
 ghost use Rattle.std.specs.Prelude.{ℕ};
 ghost use Rattle.law_returns.specs.Gate.{EdgesAreKept, GateStands, MessagesAreMindful, RemovedAreEmpty, ReturnsFindNewPlaces};
 ghost use Rattle.law_returns.specs.Returns.{DeadPlacesStay, TakesHaveOwnStamps};
-ghost use Rattle.law_full.specs.pg_run.Laws.{NamesMerge, ReturnsAreJustified};
+ghost use Rattle.pg_run.specs.Laws.{NamesMerge, ReturnsAreJustified};
 ghost use Rattle.law_names.specs.Merged.{NamesStandOn};
 
 /// Where the edges of a run keep what they promise: no message grants a directory with a dead

@@ -1,9 +1,9 @@
 -- What a node begins with is its own, and what it takes keeps that.
 use Rattle.std.proofs.Common.{[], ℕ, ◌≡◌, ◌+◌, ◌-◌, ◌*◌, ◌≤◌, ◌<◌, ◌^◌, List, ◌∷◌, length, drop, take, Option, None, Some, refl, sym, ◌∙◌, subst, arith}
 use Rattle.law_lengths.specs.Laws.{store_behind}
-use Rattle.law_lengths.specs.pg_server.Local.{effect_of}
-use Rattle.law_lengths.specs.pg_server.declared.input.Input.{Input}
-use Rattle.law_lengths.specs.pg_server.declared.input.Input.TheVariants.{Restart}
+use Rattle.pg_server.specs.Local.{effect_of}
+use Rattle.pg_server.specs.declared.input.Input.{Input}
+use Rattle.pg_server.specs.declared.input.Input.TheVariants.{Restart}
 use Rattle.law_stays.specs.Stays.{IsSameServer}
 use Rattle.law_stays.proofs.Events.{server_stays}
 use Rattle.pg_checkpoint.specs.Loads.{number_of}

@@ -9,13 +9,13 @@ use Rattle.std.proofs.lemmas.List.Elements.{All-head, All-tail}
 use Rattle.std.proofs.lemmas.List.Kept.{IsStrictlySortedBy-filter}
 use Rattle.std.proofs.lemmas.List.Sums.{length-filter}
 use Rattle.std.proofs.lemmas.Option.{none-some}
-use Rattle.law_order.specs.pg_run.pg_base.declared.id.FileId.{FileId}
-use Rattle.law_order.specs.pg_run.pg_base.Id.{file_cmp, is_same_file}
-use Rattle.law_order.proofs.pg_run.pg_base.Entries.{lookup-place}
-use Rattle.law_order.proofs.pg_run.pg_base.Orders.{file_total, is_same_file-refl, is_same_file-true}
-use Rattle.law_order.specs.pg_run.pg_entries.declared.entry.Entry.{Entry}
-use Rattle.law_order.specs.pg_run.pg_entries.Entry.{count_listed, entry_of, is_listed, is_listed_entry}
-use Rattle.law_order.specs.pg_run.pg_house.Facts.{is_among}
+use Rattle.pg_run.specs.pg_base.declared.id.FileId.{FileId}
+use Rattle.pg_run.specs.pg_base.Id.{file_cmp, is_same_file}
+use Rattle.pg_run.proofs.pg_base.Entries.{lookup-place}
+use Rattle.pg_run.proofs.pg_base.Orders.{file_total, is_same_file-refl, is_same_file-true}
+use Rattle.pg_run.specs.pg_entries.declared.entry.Entry.{Entry}
+use Rattle.pg_run.specs.pg_entries.Entry.{count_listed, entry_of, is_listed, is_listed_entry}
+use Rattle.pg_run.specs.pg_house.Facts.{is_among}
 
 -- ---- among those that pass a test
 

@@ -3,25 +3,25 @@ use Rattle.std.proofs.Common.{ℕ, ◌≡◌, ◌≤◌, true, false, List, [], 
 use Rattle.std.specs.Prelude.{◌-◌, ◌^◌}
 use Rattle.std.proofs.lemmas.Bool.{false≢true}
 use Rattle.std.proofs.lemmas.Option.{none-some}
-use Rattle.law_order.specs.pg_run.pg_base.declared.id.FileId.{FileId}
-use Rattle.law_order.specs.pg_run.pg_base.declared.id.Kind.{Kind}
-use Rattle.law_order.specs.pg_run.pg_base.declared.id.Kind.TheVariants.{Dir, File}
-use Rattle.law_order.specs.pg_run.pg_base.Version.{stamp_of}
-use Rattle.law_order.specs.pg_run.pg_content.Content.{ContentValue, shown_bytes}
-use Rattle.law_order.specs.pg_run.pg_entries.Entry.{count_listed, is_listed_entry}
-use Rattle.law_order.specs.pg_run.pg_event.declared.event.Event.{Event}
-use Rattle.law_order.specs.pg_run.pg_names.declared.attributes.Attributes.{Attributes}
-use Rattle.law_order.specs.pg_run.pg_names.Names.{InodeValue, entry_in, is_full_of, known, or_blank, own_of}
-use Rattle.law_order.specs.pg_run.pg_register.Flag.{is_raised}
-use Rattle.law_order.specs.pg_run.pg_replica.declared.replica.Replica.{Replica}
-use Rattle.law_order.specs.pg_run.pg_replica.Replicas.{or_nothing}
-use Rattle.law_order.specs.pg_run.pg_store.declared.store.Store.{Store}
-use Rattle.law_order.specs.pg_run.pg_store.Store.{content_of, replica_at, replica_of}
-use Rattle.law_order.specs.pg_run.theory_flood_pieces.Whole.{IsWhole}
-use Rattle.law_order.specs.pg_run.Laws.{HoldsWhatItTook, KnowsWhatItTook, content_taken}
-use Rattle.law_order.specs.pg_run.Run.{World, run}
-use Rattle.law_order.specs.pg_run.State.{own_state}
-use Rattle.law_order.specs.pg_run.Took.{is_held}
+use Rattle.pg_run.specs.pg_base.declared.id.FileId.{FileId}
+use Rattle.pg_run.specs.pg_base.declared.id.Kind.{Kind}
+use Rattle.pg_run.specs.pg_base.declared.id.Kind.TheVariants.{Dir, File}
+use Rattle.pg_run.specs.pg_base.Version.{stamp_of}
+use Rattle.pg_run.specs.pg_content.Content.{ContentValue, shown_bytes}
+use Rattle.pg_run.specs.pg_entries.Entry.{count_listed, is_listed_entry}
+use Rattle.pg_run.specs.pg_event.declared.event.Event.{Event}
+use Rattle.pg_run.specs.pg_names.declared.attributes.Attributes.{Attributes}
+use Rattle.pg_run.specs.pg_names.Names.{InodeValue, entry_in, is_full_of, known, or_blank, own_of}
+use Rattle.pg_run.specs.pg_register.Flag.{is_raised}
+use Rattle.pg_run.specs.pg_replica.declared.replica.Replica.{Replica}
+use Rattle.pg_run.specs.pg_replica.Replicas.{or_nothing}
+use Rattle.pg_run.specs.pg_store.declared.store.Store.{Store}
+use Rattle.pg_run.specs.pg_store.Store.{content_of, replica_at, replica_of}
+use Rattle.pg_run.specs.theory_flood_pieces.Whole.{IsWhole}
+use Rattle.pg_run.specs.Laws.{HoldsWhatItTook, KnowsWhatItTook, content_taken}
+use Rattle.pg_run.specs.Run.{World, run}
+use Rattle.pg_run.specs.State.{own_state}
+use Rattle.pg_run.specs.Took.{is_held}
 use Rattle.law_order.specs.Laws.{AreById}
 use Rattle.pg_trace.specs.declared.journal_line.JournalLine.{JournalLine}
 use Rattle.pg_trace.specs.declared.journal_line.JournalLine.TheVariants as printed

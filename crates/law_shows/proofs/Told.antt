@@ -1,16 +1,16 @@
 -- SHOWS ARE STATES: what all lines of a `show` tell.
 use Rattle.std.proofs.Common.{ℕ, ◌≡◌, ◌++◌, Bool, true, false, cond, List, [], ◌∷◌, Option, None, Some, zero, suc, refl, sym, ap, subst, ◌∙◌}
 use Rattle.std.proofs.lemmas.Bool.{false_from_ne_true}
-use Rattle.law_order.specs.pg_run.pg_base.declared.id.FileId.{FileId}
-use Rattle.law_order.specs.pg_run.pg_event.declared.event.Event.{Event}
-use Rattle.law_order.specs.pg_run.pg_names.Names.{InodeValue, known}
-use Rattle.law_order.specs.pg_run.pg_store.declared.store.Store.{Store}
-use Rattle.law_order.specs.pg_run.Laws.{AtLive, HoldsWhatItTook, NamesMerge}
-use Rattle.law_order.specs.pg_run.Quiet.{of_live}
-use Rattle.law_order.specs.pg_run.Run.{World, is_live, run}
-use Rattle.law_order.specs.pg_run.Took.{is_held}
-use Rattle.law_order.proofs.pg_run.Frame.{live_is}
-use Rattle.law_order.proofs.pg_run.QuietAnswers.{live_none, none_live}
+use Rattle.pg_run.specs.pg_base.declared.id.FileId.{FileId}
+use Rattle.pg_run.specs.pg_event.declared.event.Event.{Event}
+use Rattle.pg_run.specs.pg_names.Names.{InodeValue, known}
+use Rattle.pg_run.specs.pg_store.declared.store.Store.{Store}
+use Rattle.pg_run.specs.Laws.{AtLive, HoldsWhatItTook, NamesMerge}
+use Rattle.pg_run.specs.Quiet.{of_live}
+use Rattle.pg_run.specs.Run.{World, is_live, run}
+use Rattle.pg_run.specs.Took.{is_held}
+use Rattle.pg_run.proofs.Frame.{live_is}
+use Rattle.pg_run.proofs.QuietAnswers.{live_none, none_live}
 use Rattle.law_order.specs.Laws.{NamesAreById, ServersAreWhole}
 use Rattle.pg_trace.specs.declared.journal_line.JournalLine.{JournalLine}
 use Rattle.pg_trace.specs.declared.journal_line.JournalLine.TheVariants as printed

@@ -1,24 +1,24 @@
 -- What the lines of a `show` tell: the state of what the replicas of a thing took.
 use Rattle.std.specs.Prelude.{ℕ, ◌≡◌, ◌-◌, ◌^◌, ◌↔◌, true, false, List, [], ◌∷◌, Some, length, map, min, take}
 use Rattle.std.specs.List.Sorted.{IsStrictlySortedBy}
-use Rattle.law_order.specs.pg_run.pg_base.declared.id.FileId.{FileId}
-use Rattle.law_order.specs.pg_run.pg_base.declared.id.Kind.{Kind}
-use Rattle.law_order.specs.pg_run.pg_base.declared.id.Kind.TheVariants.{Dir, File}
-use Rattle.law_order.specs.pg_run.pg_base.declared.stamp.Stamp.{Stamp}
-use Rattle.law_order.specs.pg_run.pg_base.Id.{file_cmp}
-use Rattle.law_order.specs.pg_run.pg_base.Version.{stamp_of}
-use Rattle.law_order.specs.pg_run.pg_content.Content.{ContentValue, shown_bytes}
-use Rattle.law_order.specs.pg_run.pg_entries.Entry.{is_listed_entry}
-use Rattle.law_order.specs.pg_run.pg_event.declared.event.Event.{Event}
-use Rattle.law_order.specs.pg_run.pg_house.Facts.{is_among}
-use Rattle.law_order.specs.pg_run.pg_names.Names.{is_full}
-use Rattle.law_order.specs.pg_run.pg_register.Flag.{is_raised}
-use Rattle.law_order.specs.pg_run.pg_replica.declared.replica.Replica.{Replica}
-use Rattle.law_order.specs.pg_run.pg_store.Store.{replica_at}
-use Rattle.law_order.specs.pg_run.Laws.{AtLive, content_taken}
-use Rattle.law_order.specs.pg_run.Run.{World, is_live, run}
-use Rattle.law_order.specs.pg_run.State.{entry_state, own_state}
-use Rattle.law_order.specs.pg_run.Took.{is_held}
+use Rattle.pg_run.specs.pg_base.declared.id.FileId.{FileId}
+use Rattle.pg_run.specs.pg_base.declared.id.Kind.{Kind}
+use Rattle.pg_run.specs.pg_base.declared.id.Kind.TheVariants.{Dir, File}
+use Rattle.pg_run.specs.pg_base.declared.stamp.Stamp.{Stamp}
+use Rattle.pg_run.specs.pg_base.Id.{file_cmp}
+use Rattle.pg_run.specs.pg_base.Version.{stamp_of}
+use Rattle.pg_run.specs.pg_content.Content.{ContentValue, shown_bytes}
+use Rattle.pg_run.specs.pg_entries.Entry.{is_listed_entry}
+use Rattle.pg_run.specs.pg_event.declared.event.Event.{Event}
+use Rattle.pg_run.specs.pg_house.Facts.{is_among}
+use Rattle.pg_run.specs.pg_names.Names.{is_full}
+use Rattle.pg_run.specs.pg_register.Flag.{is_raised}
+use Rattle.pg_run.specs.pg_replica.declared.replica.Replica.{Replica}
+use Rattle.pg_run.specs.pg_store.Store.{replica_at}
+use Rattle.pg_run.specs.Laws.{AtLive, content_taken}
+use Rattle.pg_run.specs.Run.{World, is_live, run}
+use Rattle.pg_run.specs.State.{entry_state, own_state}
+use Rattle.pg_run.specs.Took.{is_held}
 use Rattle.pg_trace.specs.declared.journal_line.JournalLine.TheVariants as printed
 use Rattle.pg_trace.specs.declared.replica.ShownContent.{ShownContent}
 use Rattle.pg_trace.specs.declared.replica.ShownContent.TheVariants as contents

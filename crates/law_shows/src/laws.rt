@@ -1,7 +1,7 @@
 //! What a `show` tells in all runs. The law is a clause of a function that does nothing.
 
 ghost use Rattle.std.specs.Prelude.{ℕ};
-ghost use Rattle.law_order.specs.pg_run.Laws.{HoldsWhatItTook, NamesMerge};
+ghost use Rattle.pg_run.specs.Laws.{HoldsWhatItTook, NamesMerge};
 ghost use Rattle.law_shows.specs.Shows.{ShowsAreStates};
 
 use law_order::servers_are_whole;

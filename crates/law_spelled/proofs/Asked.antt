@@ -4,20 +4,20 @@ use Rattle.std.specs.Option.{option_or}
 use Rattle.std.specs.Prelude.{unwrap_or}
 use Rattle.pg_base.specs.declared.id.FileId.{FileId}
 use Rattle.pg_entries.specs.declared.entry.Entry.{Entry}
-use Rattle.pg_intent.specs.declared.intent.Intent.{Intent}
-use Rattle.pg_intent.specs.declared.intent.Intent.TheVariants as intent
-use Rattle.pg_intent.specs.declared.key.IntentKey.TheVariants as intent_key
+use Rattle.pg_server.specs.pg_pieces.pg_intent.declared.intent.Intent.{Intent}
+use Rattle.pg_server.specs.pg_pieces.pg_intent.declared.intent.Intent.TheVariants as intent
+use Rattle.pg_server.specs.pg_pieces.pg_intent.declared.key.IntentKey.TheVariants as intent_key
 use Rattle.pg_msg.specs.declared.message.Message.TheVariants as message
 use Rattle.pg_msg.specs.declared.work.Work.{Work}
-use Rattle.pg_names.specs.Names.{cell_at}
-use Rattle.pg_lookup.specs.declared.paths.Found.{Found}
-use Rattle.pg_store.specs.declared.store.Store.{Store}
-use Rattle.pg_store.specs.declared.wishes.Wish.{Wish}
-use Rattle.pg_store.specs.Births.{fill_at, wish_at, with_birth, with_wish}
-use Rattle.pg_store.specs.Seen.{removed_of, server_of}
-use Rattle.pg_store.specs.Servers.{next_target}
-use Rattle.pg_store.specs.Wishes.{put_wish}
-use Rattle.pg_house.proofs.Truths.{chosen}
+use Rattle.pg_server.specs.pg_pieces.pg_names.Names.{cell_at}
+use Rattle.pg_server.specs.pg_checks.pg_lookup.declared.paths.Found.{Found}
+use Rattle.pg_server.specs.pg_pieces.pg_store.declared.store.Store.{Store}
+use Rattle.pg_server.specs.pg_pieces.pg_store.declared.wishes.Wish.{Wish}
+use Rattle.pg_server.specs.pg_pieces.pg_store.Births.{fill_at, wish_at, with_birth, with_wish}
+use Rattle.pg_server.specs.pg_pieces.pg_store.Seen.{removed_of, server_of}
+use Rattle.pg_server.specs.pg_pieces.pg_store.Servers.{next_target}
+use Rattle.pg_server.specs.pg_pieces.pg_store.Wishes.{put_wish}
+use Rattle.pg_server.proofs.pg_pieces.pg_house.Truths.{chosen}
 use Rattle.pg_server.specs.pg_checks.Asking.{ask_by, ask_first, ask_for, cell_in, dir_by, fetch, fresh_wish, gold_of, holder, standing, wish_by}
 use Rattle.pg_server.specs.pg_pieces.Done.{idle}
 use Rattle.pg_server.specs.pg_pieces.Posting.{post}

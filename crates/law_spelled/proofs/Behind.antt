@@ -6,29 +6,29 @@ use Rattle.std.proofs.lemmas.List.Elements.{All-append, All-cons, All-head, All-
 use Rattle.pg_base.specs.declared.id.FileId.{FileId}
 use Rattle.pg_base.proofs.Entries.{All-insert_entry}
 use Rattle.pg_entries.specs.declared.entry.Entry.{Entry}
-use Rattle.pg_intent.specs.declared.intent.Intent.{Intent}
-use Rattle.pg_intent.specs.declared.intent.Intent.TheVariants as intent
-use Rattle.pg_intent.specs.declared.key.IntentKey.{IntentKey}
-use Rattle.pg_intent.specs.declared.key.IntentKey.TheVariants as intent_key
-use Rattle.pg_intent.specs.Intent.{key_of}
-use Rattle.pg_intent.specs.Intents.{aimed, begun, stands}
+use Rattle.pg_server.specs.pg_pieces.pg_intent.declared.intent.Intent.{Intent}
+use Rattle.pg_server.specs.pg_pieces.pg_intent.declared.intent.Intent.TheVariants as intent
+use Rattle.pg_server.specs.pg_pieces.pg_intent.declared.key.IntentKey.{IntentKey}
+use Rattle.pg_server.specs.pg_pieces.pg_intent.declared.key.IntentKey.TheVariants as intent_key
+use Rattle.pg_server.specs.pg_pieces.pg_intent.Intent.{key_of}
+use Rattle.pg_server.specs.pg_pieces.pg_intent.Intents.{aimed, begun, stands}
 use Rattle.pg_msg.specs.declared.work.Slot.{Slot}
 use Rattle.pg_msg.specs.declared.work.Touched.{Touched}
 use Rattle.pg_msg.specs.declared.work.Work.{Work}
 use Rattle.pg_msg.specs.Work.{slot_cmp, with_begun}
 use Rattle.pg_msg.proofs.Slots.{slot_exact}
-use Rattle.pg_names.specs.Names.{cell_at}
+use Rattle.pg_server.specs.pg_pieces.pg_names.Names.{cell_at}
 use Rattle.pg_register.specs.declared.flag.Flag.{Flag}
-use Rattle.pg_store.specs.declared.store.Store.{Store}
-use Rattle.pg_store.specs.declared.wishes.Wish.{Wish}
-use Rattle.pg_store.specs.Births.{fill_at, wish_at}
-use Rattle.pg_store.specs.Seen.{removed_of, server_of}
-use Rattle.pg_store.specs.Servers.{next_target}
-use Rattle.pg_store.specs.Store.{is_held, touch, with_names}
-use Rattle.pg_store.specs.Wishes.{without_wish}
-use Rattle.pg_house.specs.House.{house}
-use Rattle.pg_house.specs.Work.{state_of}
-use Rattle.pg_house.proofs.Truths.{chosen}
+use Rattle.pg_server.specs.pg_pieces.pg_store.declared.store.Store.{Store}
+use Rattle.pg_server.specs.pg_pieces.pg_store.declared.wishes.Wish.{Wish}
+use Rattle.pg_server.specs.pg_pieces.pg_store.Births.{fill_at, wish_at}
+use Rattle.pg_server.specs.pg_pieces.pg_store.Seen.{removed_of, server_of}
+use Rattle.pg_server.specs.pg_pieces.pg_store.Servers.{next_target}
+use Rattle.pg_server.specs.pg_pieces.pg_store.Store.{is_held, touch, with_names}
+use Rattle.pg_server.specs.pg_pieces.pg_store.Wishes.{without_wish}
+use Rattle.pg_server.specs.pg_pieces.pg_house.House.{house}
+use Rattle.pg_server.specs.pg_pieces.pg_house.Work.{state_of}
+use Rattle.pg_server.proofs.pg_pieces.pg_house.Truths.{chosen}
 use Rattle.pg_server.specs.pg_cells.Finish.{finish}
 use Rattle.pg_server.specs.pg_cells.Sending.{cells_where, is_chosen}
 use Rattle.pg_server.specs.pg_cells.Settling.{rules, settle, touch_all}

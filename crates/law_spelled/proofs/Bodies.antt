@@ -23,11 +23,11 @@ use Rattle.pg_msg.specs.declared.message.Piece.{Piece}
 use Rattle.pg_msg.specs.declared.message.Wanted.{Wanted}
 use Rattle.pg_msg.specs.declared.work.Work.{Work}
 use Rattle.pg_msg.specs.Ends.{back}
-use Rattle.pg_names.specs.Names.{is_dir}
-use Rattle.pg_replica.specs.declared.replica.Replica.{Replica}
-use Rattle.pg_store.specs.declared.store.Store.{Store}
-use Rattle.pg_store.specs.Store.{content_of, keep_delta, replica_at, replica_of, take_version}
-use Rattle.pg_house.proofs.Truths.{chosen}
+use Rattle.pg_server.specs.pg_pieces.pg_names.Names.{is_dir}
+use Rattle.pg_server.specs.pg_pieces.pg_replica.declared.replica.Replica.{Replica}
+use Rattle.pg_server.specs.pg_pieces.pg_store.declared.store.Store.{Store}
+use Rattle.pg_server.specs.pg_pieces.pg_store.Store.{content_of, keep_delta, replica_at, replica_of, take_version}
+use Rattle.pg_server.proofs.pg_pieces.pg_house.Truths.{chosen}
 use Rattle.pg_server.specs.pg_pieces.declared.accepting.EdgeUse.{EdgeUse}
 use Rattle.pg_server.specs.pg_pieces.declared.accepting.EdgeUse.TheVariants as manner
 use Rattle.pg_server.specs.pg_pieces.Accepting.{accept, ends_to, is_accepted}

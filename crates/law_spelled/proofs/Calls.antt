@@ -8,28 +8,28 @@ use Rattle.pg_base.specs.declared.policy.Policy.TheVariants.{Last}
 use Rattle.pg_base.specs.declared.vector.Actor.{Actor}
 use Rattle.pg_base.specs.Version.{VersionValue}
 use Rattle.pg_announced.specs.Announced.{first_of}
-use Rattle.pg_call.specs.declared.call.Call.{Call}
-use Rattle.pg_call.specs.declared.call.Call.TheVariants as call
-use Rattle.pg_call.specs.declared.call.Target.{Target}
-use Rattle.pg_call.specs.declared.refusal.Refusal.TheVariants as refusal
-use Rattle.pg_call.specs.declared.refusal.Refusal.TheVariants.{ManyActors, TooLong}
-use Rattle.pg_call.specs.declared.reply.Reply.{Reply}
-use Rattle.pg_call.specs.declared.reply.Reply.TheVariants as reply
+use Rattle.pg_server.specs.pg_pieces.pg_call.declared.call.Call.{Call}
+use Rattle.pg_server.specs.pg_pieces.pg_call.declared.call.Call.TheVariants as call
+use Rattle.pg_server.specs.pg_pieces.pg_call.declared.call.Target.{Target}
+use Rattle.pg_server.specs.pg_pieces.pg_call.declared.refusal.Refusal.TheVariants as refusal
+use Rattle.pg_server.specs.pg_pieces.pg_call.declared.refusal.Refusal.TheVariants.{ManyActors, TooLong}
+use Rattle.pg_server.specs.pg_pieces.pg_call.declared.reply.Reply.{Reply}
+use Rattle.pg_server.specs.pg_pieces.pg_call.declared.reply.Reply.TheVariants as reply
 use Rattle.pg_content.specs.Content.{next_vector}
 use Rattle.pg_msg.specs.declared.work.Work.{Work}
-use Rattle.pg_names.specs.Names.{blank_own, known}
+use Rattle.pg_server.specs.pg_pieces.pg_names.Names.{blank_own, known}
 use Rattle.pg_patch.specs.Ranges.{RangesValue, cut_to, written}
 use Rattle.pg_path.specs.Name.{IsClientName}
 use Rattle.pg_register.specs.declared.flag.Flag.{Flag}
 use Rattle.pg_register.specs.declared.place.Place.{Place}
-use Rattle.pg_replica.specs.Replica.{has_many_actors, is_too_long, own_actor}
-use Rattle.pg_store.specs.declared.store.Store.{Store}
-use Rattle.pg_store.specs.Births.{draw_birth, with_birth}
-use Rattle.pg_store.specs.Seen.{server_of}
-use Rattle.pg_store.specs.Store.{content_of, replica_of}
-use Rattle.pg_house.proofs.Truths.{chosen}
-use Rattle.pg_lookup.specs.declared.paths.LookupError.{LookupError}
-use Rattle.pg_lookup.specs.declared.paths.LookupError.TheVariants as stop
+use Rattle.pg_server.specs.pg_pieces.pg_replica.Replica.{has_many_actors, is_too_long, own_actor}
+use Rattle.pg_server.specs.pg_pieces.pg_store.declared.store.Store.{Store}
+use Rattle.pg_server.specs.pg_pieces.pg_store.Births.{draw_birth, with_birth}
+use Rattle.pg_server.specs.pg_pieces.pg_store.Seen.{server_of}
+use Rattle.pg_server.specs.pg_pieces.pg_store.Store.{content_of, replica_of}
+use Rattle.pg_server.proofs.pg_pieces.pg_house.Truths.{chosen}
+use Rattle.pg_server.specs.pg_checks.pg_lookup.declared.paths.LookupError.{LookupError}
+use Rattle.pg_server.specs.pg_checks.pg_lookup.declared.paths.LookupError.TheVariants as stop
 use Rattle.pg_server.specs.pg_checks.Answer.{Answer, answer, answered, deny, replied, told, unless}
 use Rattle.pg_server.specs.pg_checks.Asking.{ask_for}
 use Rattle.pg_server.specs.pg_checks.Checks.{dir_at, empty_dir_at, file_at, in_time, move_of, new_name, target_at}

@@ -12,7 +12,7 @@ use Rattle.pg_delta.specs.declared.delta.KeptDelta.{KeptDelta}
 use Rattle.pg_delta.specs.Chain.{chain_of, is_worth_sending, most_parts}
 use Rattle.pg_delta.specs.Kept.{bytes_of, most_bytes}
 use Rattle.pg_delta.specs.Whole.{delta_of, in_one, is_no_head}
-use Rattle.pg_house.proofs.Truths.{chosen, or_cases}
+use Rattle.pg_server.proofs.pg_pieces.pg_house.Truths.{chosen, or_cases}
 use Rattle.theory_flood_pieces.proofs.Choices.{decided}
 use Rattle.pg_server.specs.pg_transfer.Asking.{few, rise, rise_behind}
 use Rattle.pg_packet_write.specs.Fits.{FitStamps, FitsRanges, Rise, RiseBehind, laid}

@@ -3,18 +3,18 @@ use Rattle.std.proofs.Common.{refl}
 use Rattle.pg_base.specs.declared.id.FileId.{FileId}
 use Rattle.pg_base.specs.declared.stamp.Stamp.{Stamp}
 use Rattle.pg_entries.specs.declared.entry.Entry.{Entry}
-use Rattle.pg_intent.specs.declared.key.IntentKey.TheVariants as intent_key
-use Rattle.pg_intent.specs.Intents.{aimed, ended, intent_at}
+use Rattle.pg_server.specs.pg_pieces.pg_intent.declared.key.IntentKey.TheVariants as intent_key
+use Rattle.pg_server.specs.pg_pieces.pg_intent.Intents.{aimed, ended, intent_at}
 use Rattle.pg_msg.specs.declared.message.Ask.{Ask}
 use Rattle.pg_msg.specs.declared.message.Ask.TheVariants as ask
 use Rattle.pg_msg.specs.declared.message.Message.TheVariants as message
 use Rattle.pg_msg.specs.declared.work.Work.{Work}
-use Rattle.pg_store.specs.declared.store.Store.{Store}
-use Rattle.pg_store.specs.Beginning.{with_intents}
-use Rattle.pg_store.specs.Servers.{next_target}
-use Rattle.pg_store.specs.Store.{is_held}
-use Rattle.pg_house.specs.Work.{is_root}
-use Rattle.pg_house.proofs.Truths.{chosen}
+use Rattle.pg_server.specs.pg_pieces.pg_store.declared.store.Store.{Store}
+use Rattle.pg_server.specs.pg_pieces.pg_store.Beginning.{with_intents}
+use Rattle.pg_server.specs.pg_pieces.pg_store.Servers.{next_target}
+use Rattle.pg_server.specs.pg_pieces.pg_store.Store.{is_held}
+use Rattle.pg_server.specs.pg_pieces.pg_house.Work.{is_root}
+use Rattle.pg_server.proofs.pg_pieces.pg_house.Truths.{chosen}
 use Rattle.pg_server.specs.pg_pieces.Done.{idle}
 use Rattle.pg_server.specs.pg_pieces.Posting.{reply}
 use Rattle.pg_server.specs.pg_pieces.Taking.{take_entry_noted, take_flags_noted, take_place_noted}

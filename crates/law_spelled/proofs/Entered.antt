@@ -9,18 +9,18 @@ use Rattle.pg_base.specs.declared.id.Kind.TheVariants.{Dir, File}
 use Rattle.pg_content.specs.Content.{Among}
 use Rattle.pg_content.proofs.Members.{among_filter}
 use Rattle.pg_edges.specs.declared.edge.Edge.{Edge}
-use Rattle.pg_intent.specs.Intents.{keys_to}
+use Rattle.pg_server.specs.pg_pieces.pg_intent.Intents.{keys_to}
 use Rattle.pg_msg.specs.declared.message.Message.TheVariants as message
 use Rattle.pg_msg.specs.declared.work.Work.{Work}
-use Rattle.pg_names.specs.declared.attributes.Attributes.{Attributes}
-use Rattle.pg_names.specs.Names.{InodeValue, NamesValue, directories, is_dir, is_dir_kind, known, own_at}
-use Rattle.pg_house.proofs.Truths.{chosen}
-use Rattle.pg_store.specs.declared.store.Store.{Store}
-use Rattle.pg_store.specs.Seen.{removed_of}
-use Rattle.pg_store.specs.Servers.{next_target}
-use Rattle.pg_store.specs.Store.{replica_at}
-use Rattle.pg_store.specs.Views.{cut, cut_born, cut_each, enter, listed_birth, with_removed}
-use Rattle.pg_store.specs.Wishes.{wished_of}
+use Rattle.pg_server.specs.pg_pieces.pg_names.declared.attributes.Attributes.{Attributes}
+use Rattle.pg_server.specs.pg_pieces.pg_names.Names.{InodeValue, NamesValue, directories, is_dir, is_dir_kind, known, own_at}
+use Rattle.pg_server.proofs.pg_pieces.pg_house.Truths.{chosen}
+use Rattle.pg_server.specs.pg_pieces.pg_store.declared.store.Store.{Store}
+use Rattle.pg_server.specs.pg_pieces.pg_store.Seen.{removed_of}
+use Rattle.pg_server.specs.pg_pieces.pg_store.Servers.{next_target}
+use Rattle.pg_server.specs.pg_pieces.pg_store.Store.{replica_at}
+use Rattle.pg_server.specs.pg_pieces.pg_store.Views.{cut, cut_born, cut_each, enter, listed_birth, with_removed}
+use Rattle.pg_server.specs.pg_pieces.pg_store.Wishes.{wished_of}
 use Rattle.pg_server.specs.pg_graph.Walks.{edges_of}
 use Rattle.pg_server.specs.pg_intentions.Inviting.{first_loose, invite_along, invite_each, invite_of, invites, loose_edge}
 use Rattle.pg_server.specs.pg_intentions.Seeks.{matches}

@@ -7,7 +7,7 @@ use Rattle.std.proofs.lemmas.List.Elements.{All-cons, All-from_recursion, All-he
 use Rattle.pg_register.specs.declared.flag.Flag.{Flag}
 use Rattle.pg_register.specs.Flag.{IsByServer, flag_of, is_new, join_flag, join_flags, put_flag}
 use Rattle.pg_register.proofs.ByServer.{Above, IsByServer-head, IsByServer-join_flag, IsByServer-nil, IsByServer-tail, below}
-use Rattle.pg_house.proofs.Truths.{chosen}
+use Rattle.pg_server.proofs.pg_pieces.pg_house.Truths.{chosen}
 use Rattle.pg_packet_write.specs.Fits.{FitGolds, IsServer}
 use Rattle.law_spelled.specs.Stores.{FitFlags}
 

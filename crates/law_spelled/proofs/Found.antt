@@ -4,17 +4,17 @@ use Rattle.std.proofs.lemmas.Bool.{false≢true}
 use Rattle.pg_base.specs.declared.id.FileId.{FileId}
 use Rattle.pg_base.specs.declared.id.Kind.{Kind}
 use Rattle.pg_base.specs.declared.id.Kind.TheVariants.{Dir, File}
-use Rattle.pg_call.specs.declared.refusal.Refusal.TheVariants.{DirFull, Exists, Loop, Root}
-use Rattle.pg_names.specs.Names.{NamesValue, is_dir_kind}
+use Rattle.pg_server.specs.pg_pieces.pg_call.declared.refusal.Refusal.TheVariants.{DirFull, Exists, Loop, Root}
+use Rattle.pg_server.specs.pg_pieces.pg_names.Names.{NamesValue, is_dir_kind}
 use Rattle.pg_path.specs.Name.{IsClientName}
 use Rattle.pg_path.specs.Tested.{is_client_name}
 use Rattle.pg_path.proofs.Tested.{client_name_is}
 use Rattle.pg_register.specs.Place.{root}
-use Rattle.pg_store.specs.declared.store.Store.{Store}
-use Rattle.pg_lookup.specs.declared.paths.LookupError.{LookupError}
-use Rattle.pg_lookup.specs.declared.paths.LookupError.TheVariants as stop
-use Rattle.pg_lookup.specs.Walk.{and_then, is_dir_full, reach, reach_parent, shown_by}
-use Rattle.pg_house.specs.Returning.{is_root}
+use Rattle.pg_server.specs.pg_pieces.pg_store.declared.store.Store.{Store}
+use Rattle.pg_server.specs.pg_checks.pg_lookup.declared.paths.LookupError.{LookupError}
+use Rattle.pg_server.specs.pg_checks.pg_lookup.declared.paths.LookupError.TheVariants as stop
+use Rattle.pg_server.specs.pg_checks.pg_lookup.Walk.{and_then, is_dir_full, reach, reach_parent, shown_by}
+use Rattle.pg_server.specs.pg_pieces.pg_house.Returning.{is_root}
 use Rattle.pg_server.specs.pg_checks.Answer.{unless}
 use Rattle.pg_server.specs.pg_checks.Checks.{in_time, move_along, move_of, move_to, new_name, new_name_in, unless_shown, when_free}
 use Rattle.pg_server.specs.pg_checks.Paths.{is_none, last_of, new_path_of, path_of, paths_of, with_new_name}

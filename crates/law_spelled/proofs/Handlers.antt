@@ -6,9 +6,9 @@ use Rattle.pg_base.specs.declared.id.Kind.{Kind}
 use Rattle.pg_base.specs.declared.id.Kind.TheVariants.{Dir, File}
 use Rattle.pg_entries.specs.declared.cell.Cell.{Cell}
 use Rattle.pg_entries.specs.declared.cell.Cell.TheVariants as cells
-use Rattle.pg_intent.specs.declared.key.IntentKey.{IntentKey}
-use Rattle.pg_intent.specs.declared.key.IntentKey.TheVariants as intent_key
-use Rattle.pg_intent.specs.Intents.{aimed}
+use Rattle.pg_server.specs.pg_pieces.pg_intent.declared.key.IntentKey.{IntentKey}
+use Rattle.pg_server.specs.pg_pieces.pg_intent.declared.key.IntentKey.TheVariants as intent_key
+use Rattle.pg_server.specs.pg_pieces.pg_intent.Intents.{aimed}
 use Rattle.pg_msg.specs.declared.message.Ends.{Ends}
 use Rattle.pg_msg.specs.declared.message.Granted.{Granted}
 use Rattle.pg_msg.specs.declared.message.Message.{Message}
@@ -18,19 +18,19 @@ use Rattle.pg_msg.specs.declared.work.Work.{Work}
 use Rattle.pg_msg.specs.Ends.{back}
 use Rattle.pg_msg.specs.Sent.{cell_key}
 use Rattle.pg_msg.specs.Work.{with_made}
-use Rattle.pg_names.specs.Names as names
-use Rattle.pg_names.specs.Names.{is_dir, is_dir_kind, own_or_blank}
+use Rattle.pg_server.specs.pg_pieces.pg_names.Names as names
+use Rattle.pg_server.specs.pg_pieces.pg_names.Names.{is_dir, is_dir_kind, own_or_blank}
 use Rattle.pg_register.specs.declared.place.Place.{Place}
 use Rattle.pg_register.specs.Place.{blank_place}
-use Rattle.pg_replica.specs.declared.replica.Replica.{Replica}
-use Rattle.pg_store.specs.declared.store.Store.{Store}
-use Rattle.pg_store.specs.Beginning.{with_intents}
-use Rattle.pg_store.specs.Births.{fill_at, has_birth, is_pending, wish_at, with_wishes}
-use Rattle.pg_store.specs.Links.{is_clean, knows_later}
-use Rattle.pg_store.specs.Servers.{next_target}
-use Rattle.pg_store.specs.Store.{is_full, replica_at, with_names}
-use Rattle.pg_store.specs.Wishes.{aim_wish}
-use Rattle.pg_house.proofs.Truths.{chosen}
+use Rattle.pg_server.specs.pg_pieces.pg_replica.declared.replica.Replica.{Replica}
+use Rattle.pg_server.specs.pg_pieces.pg_store.declared.store.Store.{Store}
+use Rattle.pg_server.specs.pg_pieces.pg_store.Beginning.{with_intents}
+use Rattle.pg_server.specs.pg_pieces.pg_store.Births.{fill_at, has_birth, is_pending, wish_at, with_wishes}
+use Rattle.pg_server.specs.pg_pieces.pg_store.Links.{is_clean, knows_later}
+use Rattle.pg_server.specs.pg_pieces.pg_store.Servers.{next_target}
+use Rattle.pg_server.specs.pg_pieces.pg_store.Store.{is_full, replica_at, with_names}
+use Rattle.pg_server.specs.pg_pieces.pg_store.Wishes.{aim_wish}
+use Rattle.pg_server.proofs.pg_pieces.pg_house.Truths.{chosen}
 use Rattle.theory_flood_pieces.proofs.Choices.{decided}
 use Rattle.pg_server.specs.pg_pieces.declared.accepting.EdgeUse.{EdgeUse}
 use Rattle.pg_server.specs.pg_pieces.declared.accepting.EdgeUse.TheVariants as manner

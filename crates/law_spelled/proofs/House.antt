@@ -15,19 +15,19 @@ use Rattle.pg_msg.specs.declared.update.Update.TheVariants as update
 use Rattle.pg_msg.specs.declared.work.Work.{Work}
 use Rattle.pg_msg.specs.Work.{with_left, with_made, with_touched}
 use Rattle.pg_msg.specs.declared.work.Slot.{Slot}
-use Rattle.pg_names.specs.declared.attributes.Attributes.{Attributes}
-use Rattle.pg_names.specs.Names.{NamesValue, cell_at, directories, known, own_at, with_last}
-use Rattle.pg_names.specs.Same.{is_same_own, is_same_place}
-use Rattle.pg_house.specs.Work.{State, is_root, note_left, place_touched, touched}
-use Rattle.pg_house.specs.Passing.{cell_for, flags_touched, gets, given, greatest, is_held_back, is_other_flag, joined_with, offered, own_taken, own_touched, pass, pass_all, pass_own, passed_to, spread, taking, took}
-use Rattle.pg_house.specs.Placing.{drawn, flags_of, live_place, made_at, own_with, place_at, place_of, placed}
-use Rattle.pg_house.specs.Returning.{first_returning, is_returning, return_first, returned}
-use Rattle.pg_house.specs.Cycles.{break_first, first_moving, moved}
-use Rattle.pg_house.specs.House.{house, house_with, movable}
-use Rattle.pg_house.proofs.AllReturned.{IsReturning, returning_by}
-use Rattle.pg_house.proofs.Counting.{find_found}
-use Rattle.pg_house.proofs.Repeating.{repeated_keeps}
-use Rattle.pg_house.proofs.Truths.{chosen}
+use Rattle.pg_server.specs.pg_pieces.pg_names.declared.attributes.Attributes.{Attributes}
+use Rattle.pg_server.specs.pg_pieces.pg_names.Names.{NamesValue, cell_at, directories, known, own_at, with_last}
+use Rattle.pg_server.specs.pg_pieces.pg_names.Same.{is_same_own, is_same_place}
+use Rattle.pg_server.specs.pg_pieces.pg_house.Work.{State, is_root, note_left, place_touched, touched}
+use Rattle.pg_server.specs.pg_pieces.pg_house.Passing.{cell_for, flags_touched, gets, given, greatest, is_held_back, is_other_flag, joined_with, offered, own_taken, own_touched, pass, pass_all, pass_own, passed_to, spread, taking, took}
+use Rattle.pg_server.specs.pg_pieces.pg_house.Placing.{drawn, flags_of, live_place, made_at, own_with, place_at, place_of, placed}
+use Rattle.pg_server.specs.pg_pieces.pg_house.Returning.{first_returning, is_returning, return_first, returned}
+use Rattle.pg_server.specs.pg_pieces.pg_house.Cycles.{break_first, first_moving, moved}
+use Rattle.pg_server.specs.pg_pieces.pg_house.House.{house, house_with, movable}
+use Rattle.pg_server.proofs.pg_pieces.pg_house.AllReturned.{IsReturning, returning_by}
+use Rattle.pg_server.proofs.pg_pieces.pg_house.Counting.{find_found}
+use Rattle.pg_server.proofs.pg_pieces.pg_house.Repeating.{repeated_keeps}
+use Rattle.pg_server.proofs.pg_pieces.pg_house.Truths.{chosen}
 use Rattle.law_spelled.specs.Stores.{FitFlags, FitsNames, FitsOwn, FitsPlace, MayBeServer}
 use Rattle.law_spelled.proofs.Flags.{many_more, no_flags}
 use Rattle.law_spelled.proofs.Places.{cell_fits, last_fits, newer_fits, own_fits, set_entry_fits, set_own_fits, tilde_fits}

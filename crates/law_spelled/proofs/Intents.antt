@@ -10,13 +10,13 @@ use Rattle.pg_base.specs.Id.{is_same_file}
 use Rattle.pg_base.proofs.Orders.{is_same_file-true}
 use Rattle.pg_entries.specs.declared.entry.Entry.{Entry}
 use Rattle.pg_entries.specs.Entry.{joined}
-use Rattle.pg_intent.specs.declared.intent.Intent.{Intent}
-use Rattle.pg_intent.specs.declared.intent.Intent.TheVariants as intent
-use Rattle.pg_intent.specs.declared.key.IntentKey.{IntentKey}
-use Rattle.pg_intent.specs.Intent.{aimed_at, key_of, rejoined}
-use Rattle.pg_intent.specs.Intents.{aimed, begun, changed, ended, has_key, intent_at, stands, turned, turned_each}
-use Rattle.pg_intent.specs.Key.{is_for_peer}
-use Rattle.pg_house.proofs.Truths.{chosen}
+use Rattle.pg_server.specs.pg_pieces.pg_intent.declared.intent.Intent.{Intent}
+use Rattle.pg_server.specs.pg_pieces.pg_intent.declared.intent.Intent.TheVariants as intent
+use Rattle.pg_server.specs.pg_pieces.pg_intent.declared.key.IntentKey.{IntentKey}
+use Rattle.pg_server.specs.pg_pieces.pg_intent.Intent.{aimed_at, key_of, rejoined}
+use Rattle.pg_server.specs.pg_pieces.pg_intent.Intents.{aimed, begun, changed, ended, has_key, intent_at, stands, turned, turned_each}
+use Rattle.pg_server.specs.pg_pieces.pg_intent.Key.{is_for_peer}
+use Rattle.pg_server.proofs.pg_pieces.pg_house.Truths.{chosen}
 use Rattle.law_spelled.specs.Stores.{FitsIntent, FitsListed, FitsPlace, MayBeServer}
 use Rattle.law_spelled.proofs.Flags.{many_more}
 use Rattle.law_spelled.proofs.Places.{newer_fits}

@@ -4,16 +4,16 @@ use Rattle.std.proofs.lemmas.List.Elements.{All-head, All-tail}
 use Rattle.pg_base.specs.declared.id.FileId.{FileId}
 use Rattle.pg_base.specs.declared.stamp.Stamp.{Stamp}
 use Rattle.pg_edges.specs.declared.edge.Edge.{Edge}
-use Rattle.pg_intent.specs.declared.key.IntentKey.TheVariants as intent_key
-use Rattle.pg_intent.specs.Intents.{ended}
+use Rattle.pg_server.specs.pg_pieces.pg_intent.declared.key.IntentKey.TheVariants as intent_key
+use Rattle.pg_server.specs.pg_pieces.pg_intent.Intents.{ended}
 use Rattle.pg_msg.specs.declared.message.Ends.{Ends}
 use Rattle.pg_msg.specs.declared.message.Message.TheVariants as message
 use Rattle.pg_msg.specs.declared.work.Work.{Work}
-use Rattle.pg_store.specs.declared.store.Store.{Store}
-use Rattle.pg_store.specs.Beginning.{let_go}
-use Rattle.pg_store.specs.Births.{birth_of}
-use Rattle.pg_store.specs.Store.{replica_at, replica_of}
-use Rattle.pg_house.proofs.Truths.{chosen}
+use Rattle.pg_server.specs.pg_pieces.pg_store.declared.store.Store.{Store}
+use Rattle.pg_server.specs.pg_pieces.pg_store.Beginning.{let_go}
+use Rattle.pg_server.specs.pg_pieces.pg_store.Births.{birth_of}
+use Rattle.pg_server.specs.pg_pieces.pg_store.Store.{replica_at, replica_of}
+use Rattle.pg_server.proofs.pg_pieces.pg_house.Truths.{chosen}
 use Rattle.pg_server.specs.pg_pieces.declared.accepting.EdgeUse.TheVariants as manner
 use Rattle.pg_server.specs.pg_pieces.Accepting.{accept, ends_to, is_accepted}
 use Rattle.pg_server.specs.pg_pieces.Done.{Done, idle}

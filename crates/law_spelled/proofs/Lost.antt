@@ -6,19 +6,19 @@ use Rattle.pg_base.specs.declared.policy.Policy.TheVariants.{Last}
 use Rattle.pg_content.specs.Content.{Among}
 use Rattle.pg_content.proofs.Members.{among_filter}
 use Rattle.pg_entries.specs.declared.entry.Entry.{Entry}
-use Rattle.pg_intent.specs.declared.key.IntentKey.TheVariants as intent_key
-use Rattle.pg_intent.specs.Intents.{ended}
+use Rattle.pg_server.specs.pg_pieces.pg_intent.declared.key.IntentKey.TheVariants as intent_key
+use Rattle.pg_server.specs.pg_pieces.pg_intent.Intents.{ended}
 use Rattle.pg_msg.specs.declared.update.Update.TheVariants as update
 use Rattle.pg_msg.specs.declared.work.Work.{Work}
 use Rattle.pg_msg.specs.Work.{with_made}
-use Rattle.pg_names.specs.declared.attributes.Attributes.{Attributes}
-use Rattle.pg_names.specs.Names.{NamesValue, blank_own, cell_at, is_dir}
+use Rattle.pg_server.specs.pg_pieces.pg_names.declared.attributes.Attributes.{Attributes}
+use Rattle.pg_server.specs.pg_pieces.pg_names.Names.{NamesValue, blank_own, cell_at, is_dir}
 use Rattle.pg_register.specs.declared.place.Place.{Place}
-use Rattle.pg_house.proofs.Truths.{chosen}
-use Rattle.pg_store.specs.declared.store.Store.{Store}
-use Rattle.pg_store.specs.Births.{draw_birth, with_birth}
-use Rattle.pg_store.specs.Store.{is_held}
-use Rattle.pg_store.specs.Wishes.{without_wish}
+use Rattle.pg_server.proofs.pg_pieces.pg_house.Truths.{chosen}
+use Rattle.pg_server.specs.pg_pieces.pg_store.declared.store.Store.{Store}
+use Rattle.pg_server.specs.pg_pieces.pg_store.Births.{draw_birth, with_birth}
+use Rattle.pg_server.specs.pg_pieces.pg_store.Store.{is_held}
+use Rattle.pg_server.specs.pg_pieces.pg_store.Wishes.{without_wish}
 use Rattle.pg_server.specs.pg_checks.Asking.{cell_in, is_later, later, latest}
 use Rattle.pg_server.specs.pg_pieces.Done.{idle}
 use Rattle.pg_server.specs.pg_calls.Forgetting.{bare_entry, begin_lost, begun_at, begun_with, dead_at, dead_by, dirs_of, fill_lost, forget_lost, has_blank_place, is_wanted, last_listing, last_place, lists_in, mark, marked_each, placed_in_root, placed_lost, root_place, strike_out, struck_out, unfilled, unwished}

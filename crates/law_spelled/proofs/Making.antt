@@ -7,8 +7,8 @@ use Rattle.pg_msg.specs.declared.update.Update.TheVariants as update
 use Rattle.pg_msg.specs.Work.{with_made}
 use Rattle.pg_patch.specs.Ranges.{RangesValue}
 use Rattle.pg_register.specs.declared.place.Place.{Place}
-use Rattle.pg_replica.specs.Replica.{own_actor}
-use Rattle.pg_store.specs.Store.{content_of, replica_of}
+use Rattle.pg_server.specs.pg_pieces.pg_replica.Replica.{own_actor}
+use Rattle.pg_server.specs.pg_pieces.pg_store.Store.{content_of, replica_of}
 use Rattle.pg_server.specs.pg_pieces.Done.{Done}
 use Rattle.pg_server.specs.pg_calls.Making.{make_place, make_version}
 use Rattle.pg_packet_write.specs.Fits.{IsServer}

@@ -10,7 +10,7 @@ use Rattle.pg_msg.specs.declared.message.Sent.{Sent}
 use Rattle.pg_register.specs.declared.place.Place.{Place}
 use Rattle.pg_register.specs.Flag.{IsByServer}
 use Rattle.pg_words.specs.PlaceWords.{IsPlace}
-use Rattle.pg_store.specs.declared.store.Store.{Store}
+use Rattle.pg_server.specs.pg_pieces.pg_store.declared.store.Store.{Store}
 use Rattle.pg_server.specs.pg_pieces.Posting.{sent_to}
 use Rattle.pg_packet_write.specs.Fits.{FitsCell, FitsEntry, FitsHead}
 use Rattle.pg_packet_write.specs.Messages.{FitsMessage, FitsTold}

@@ -10,11 +10,11 @@ use Rattle.pg_base.proofs.Entries.{All-insert_entry}
 use Rattle.pg_announced.specs.declared.announced.Announced.{Announced}
 use Rattle.pg_announced.specs.declared.announced.NoteKey.{NoteKey}
 use Rattle.pg_announced.specs.Announced.{NotesValue, change_note, changed, is_asked_of, key_cmp, lose_note, note_at, put_note, released, unasked, without_file, without_note}
-use Rattle.pg_replica.specs.declared.replica.Replica.{Replica}
-use Rattle.pg_store.specs.declared.wishes.Wish.{Wish}
-use Rattle.pg_store.specs.Store.{notes_behind}
-use Rattle.pg_store.specs.Wishes.{WishesValue, aim_each, aim_wish, aimed, aimed_at, put_wish, wish_in, without_wish}
-use Rattle.pg_house.proofs.Truths.{chosen}
+use Rattle.pg_server.specs.pg_pieces.pg_replica.declared.replica.Replica.{Replica}
+use Rattle.pg_server.specs.pg_pieces.pg_store.declared.wishes.Wish.{Wish}
+use Rattle.pg_server.specs.pg_pieces.pg_store.Store.{notes_behind}
+use Rattle.pg_server.specs.pg_pieces.pg_store.Wishes.{WishesValue, aim_each, aim_wish, aimed, aimed_at, put_wish, wish_in, without_wish}
+use Rattle.pg_server.proofs.pg_pieces.pg_house.Truths.{chosen}
 use Rattle.pg_packet_write.specs.Fits.{FitsHead}
 use Rattle.law_spelled.specs.Stores.{FitsNote, MayBeServer}
 

@@ -17,11 +17,11 @@ use Rattle.pg_register.specs.declared.place.Place.{Place}
 use Rattle.pg_register.specs.Place.{IsPlaceName, blank_place, newer_place, tilde_name}
 use Rattle.pg_entries.specs.declared.entry.Entry.{Entry}
 use Rattle.pg_entries.specs.Entry.{entry_of, joined_to}
-use Rattle.pg_names.specs.declared.attributes.Attributes.{Attributes}
-use Rattle.pg_names.specs.Names.{InodeValue, NamesValue, begin, blank_own, cell_at, changed, entry_in, fill, filled, join_entry, join_flag, join_place, known, let_go, new_held, or_blank, own_at, own_of, own_or_blank, raise, remove_server, set_entry, set_own, update, with_entry, with_flag, with_joined, with_last, with_own, with_place}
-use Rattle.pg_names.proofs.Gone.{gone_stayed}
-use Rattle.pg_names.proofs.Lookups.{known_held}
-use Rattle.pg_house.proofs.Truths.{chosen}
+use Rattle.pg_server.specs.pg_pieces.pg_names.declared.attributes.Attributes.{Attributes}
+use Rattle.pg_server.specs.pg_pieces.pg_names.Names.{InodeValue, NamesValue, begin, blank_own, cell_at, changed, entry_in, fill, filled, join_entry, join_flag, join_place, known, let_go, new_held, or_blank, own_at, own_of, own_or_blank, raise, remove_server, set_entry, set_own, update, with_entry, with_flag, with_joined, with_last, with_own, with_place}
+use Rattle.pg_server.proofs.pg_pieces.pg_names.Gone.{gone_stayed}
+use Rattle.pg_server.proofs.pg_pieces.pg_names.Lookups.{known_held}
+use Rattle.pg_server.proofs.pg_pieces.pg_house.Truths.{chosen}
 use Rattle.law_spelled.specs.Stores.{FitEntries, FitsInode, FitsListed, FitsNames, FitsOwn, FitsPlace}
 use Rattle.law_spelled.proofs.Flags.{IsOfServer, many_more, no_flags, one_more}
 

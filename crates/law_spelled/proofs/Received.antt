@@ -11,11 +11,11 @@ use Rattle.pg_msg.specs.declared.message.Message.{Message}
 use Rattle.pg_msg.specs.declared.message.Message.TheVariants as message
 use Rattle.pg_msg.specs.declared.summary.Greeting.TheVariants as greeting
 use Rattle.pg_msg.specs.declared.work.Work.{Work}
-use Rattle.pg_store.specs.declared.store.Store.{Store}
-use Rattle.pg_store.specs.Links.{knows_later}
-use Rattle.pg_store.specs.Seen.{server_of}
-use Rattle.pg_store.specs.Store.{is_held, replica_at}
-use Rattle.pg_house.proofs.Truths.{chosen}
+use Rattle.pg_server.specs.pg_pieces.pg_store.declared.store.Store.{Store}
+use Rattle.pg_server.specs.pg_pieces.pg_store.Links.{knows_later}
+use Rattle.pg_server.specs.pg_pieces.pg_store.Seen.{server_of}
+use Rattle.pg_server.specs.pg_pieces.pg_store.Store.{is_held, replica_at}
+use Rattle.pg_server.proofs.pg_pieces.pg_house.Truths.{chosen}
 use Rattle.theory_flood_pieces.proofs.Choices.{decided}
 use Rattle.pg_server.specs.pg_pieces.declared.accepting.EdgeUse.TheVariants as manner
 use Rattle.pg_server.specs.pg_pieces.Accepting.{accept, ends_to, is_accepted, link_peer}

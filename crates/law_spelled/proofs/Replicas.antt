@@ -28,11 +28,11 @@ use Rattle.pg_edges.specs.declared.key.Key.{Key}
 use Rattle.pg_edges.specs.declared.key.Key.TheVariants as key
 use Rattle.pg_edges.specs.Edges.{acked, is_listed, linked, makes_edge, new_edge, put_edge, retired, tag_at, take_off, taken_off, touched, unlinked, without_edge}
 use Rattle.pg_edges.specs.Key.{key_cmp}
-use Rattle.pg_replica.specs.declared.link.Link.{Link}
-use Rattle.pg_replica.specs.declared.replica.Replica.{Replica}
-use Rattle.pg_replica.specs.Replica.{covered_heads, has_edge, key_of, keys, new_replica, own_actor, with_ack, with_head, with_kept, with_link, with_touch, with_unlink, with_write, without_keys}
-use Rattle.pg_replica.specs.Replicas.{ByFile, or_nothing, put_replica, replica_in, replicas_acked, replicas_keeping, replicas_linked, replicas_taking, replicas_touched, replicas_unlinked, replicas_writing, without_replica}
-use Rattle.pg_house.proofs.Truths.{chosen}
+use Rattle.pg_server.specs.pg_pieces.pg_replica.declared.link.Link.{Link}
+use Rattle.pg_server.specs.pg_pieces.pg_replica.declared.replica.Replica.{Replica}
+use Rattle.pg_server.specs.pg_pieces.pg_replica.Replica.{covered_heads, has_edge, key_of, keys, new_replica, own_actor, with_ack, with_head, with_kept, with_link, with_touch, with_unlink, with_write, without_keys}
+use Rattle.pg_server.specs.pg_pieces.pg_replica.Replicas.{ByFile, or_nothing, put_replica, replica_in, replicas_acked, replicas_keeping, replicas_linked, replicas_taking, replicas_touched, replicas_unlinked, replicas_writing, without_replica}
+use Rattle.pg_server.proofs.pg_pieces.pg_house.Truths.{chosen}
 use Rattle.theory_flood_pieces.proofs.Choices.{found_replica}
 use Rattle.pg_packet_write.specs.Fits.{FitsHead, IsServer}
 use Rattle.law_spelled.specs.Stores.{FitsReplica, MayBeServer}

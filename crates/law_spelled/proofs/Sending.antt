@@ -12,25 +12,25 @@ use Rattle.pg_edges.specs.declared.edge.Edge.{Edge}
 use Rattle.pg_edges.specs.declared.key.Key.{Key}
 use Rattle.pg_edges.specs.declared.key.Key.TheVariants as key
 use Rattle.pg_edges.specs.Key.{is_same_key}
-use Rattle.pg_intent.specs.declared.intent.Intent.{Intent}
-use Rattle.pg_intent.specs.declared.intent.Intent.TheVariants as intent
-use Rattle.pg_intent.specs.declared.key.IntentKey.{IntentKey}
-use Rattle.pg_intent.specs.Intent.{target_of}
-use Rattle.pg_intent.specs.Intents.{intent_at}
+use Rattle.pg_server.specs.pg_pieces.pg_intent.declared.intent.Intent.{Intent}
+use Rattle.pg_server.specs.pg_pieces.pg_intent.declared.intent.Intent.TheVariants as intent
+use Rattle.pg_server.specs.pg_pieces.pg_intent.declared.key.IntentKey.{IntentKey}
+use Rattle.pg_server.specs.pg_pieces.pg_intent.Intent.{target_of}
+use Rattle.pg_server.specs.pg_pieces.pg_intent.Intents.{intent_at}
 use Rattle.pg_msg.specs.declared.message.Ends.{Ends}
 use Rattle.pg_msg.specs.declared.message.Message.{Message}
 use Rattle.pg_msg.specs.declared.message.Message.TheVariants as message
-use Rattle.pg_names.specs.declared.attributes.Attributes.{Attributes}
-use Rattle.pg_names.specs.Names.{NamesValue, own_at, own_or_blank}
-use Rattle.pg_names.specs.Names as names
+use Rattle.pg_server.specs.pg_pieces.pg_names.declared.attributes.Attributes.{Attributes}
+use Rattle.pg_server.specs.pg_pieces.pg_names.Names.{NamesValue, own_at, own_or_blank}
+use Rattle.pg_server.specs.pg_pieces.pg_names.Names as names
 use Rattle.pg_register.specs.declared.flag.Flag.{Flag}
 use Rattle.pg_register.specs.Flag.{flag_of}
-use Rattle.pg_replica.specs.declared.replica.Replica.{Replica}
-use Rattle.pg_replica.specs.Replica as replica
-use Rattle.pg_store.specs.declared.store.Store.{Store}
-use Rattle.pg_store.specs.Cells.{cell_at, entry_cell, flag_cell, is_sure, version_cell}
-use Rattle.pg_store.specs.Store.{content_of, replica_at}
-use Rattle.pg_house.proofs.Truths.{chosen}
+use Rattle.pg_server.specs.pg_pieces.pg_replica.declared.replica.Replica.{Replica}
+use Rattle.pg_server.specs.pg_pieces.pg_replica.Replica as replica
+use Rattle.pg_server.specs.pg_pieces.pg_store.declared.store.Store.{Store}
+use Rattle.pg_server.specs.pg_pieces.pg_store.Cells.{cell_at, entry_cell, flag_cell, is_sure, version_cell}
+use Rattle.pg_server.specs.pg_pieces.pg_store.Store.{content_of, replica_at}
+use Rattle.pg_server.proofs.pg_pieces.pg_house.Truths.{chosen}
 use Rattle.theory_flood_pieces.proofs.Choices.{decided}
 use Rattle.pg_server.specs.pg_cells.Sending.{Wanted, cell_to, cell_under, cells_where, edge_cells, key_cell, replica_cells, told_as, waits}
 use Rattle.pg_server.specs.pg_pieces.Posting.{sent_to}

@@ -6,11 +6,11 @@ use Rattle.std.specs.Option.{option_map}
 use Rattle.pg_register.specs.declared.flag.Flag.{Flag}
 use Rattle.pg_register.specs.Flag.{first_other_gold, is_live_other}
 use Rattle.pg_entries.specs.declared.entry.Entry.{Entry}
-use Rattle.pg_intent.proofs.Above.{next_lives}
-use Rattle.pg_store.specs.declared.store.Store.{Store}
-use Rattle.pg_store.specs.Seen.{removed_of, server_of}
-use Rattle.pg_store.specs.Servers.{first_target, next_target}
-use Rattle.pg_house.proofs.Truths.{chosen}
+use Rattle.pg_server.proofs.pg_pieces.pg_intent.Above.{next_lives}
+use Rattle.pg_server.specs.pg_pieces.pg_store.declared.store.Store.{Store}
+use Rattle.pg_server.specs.pg_pieces.pg_store.Seen.{removed_of, server_of}
+use Rattle.pg_server.specs.pg_pieces.pg_store.Servers.{first_target, next_target}
+use Rattle.pg_server.proofs.pg_pieces.pg_house.Truths.{chosen}
 use Rattle.law_spelled.specs.Stores.{FitsStore, MayBeServer}
 use Rattle.law_spelled.proofs.Flags.{IsOfServer, MayBeFlag, first_flag}
 

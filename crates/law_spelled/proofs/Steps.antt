@@ -5,26 +5,26 @@ use Rattle.std.proofs.lemmas.List.Elements.{All-append, All-contains, All-nil}
 use Rattle.std.proofs.lemmas.Option.{none-some}
 use Rattle.pg_base.specs.declared.id.FileId.{FileId}
 use Rattle.pg_announced.specs.Announced.{released}
-use Rattle.pg_call.specs.declared.call.Call.{Call}
-use Rattle.pg_call.specs.declared.refusal.Refusal.TheVariants.{ClockEnd}
-use Rattle.pg_call.specs.declared.reply.Reply.{Reply}
-use Rattle.pg_call.specs.declared.reply.Reply.TheVariants as reply
+use Rattle.pg_server.specs.pg_pieces.pg_call.declared.call.Call.{Call}
+use Rattle.pg_server.specs.pg_pieces.pg_call.declared.refusal.Refusal.TheVariants.{ClockEnd}
+use Rattle.pg_server.specs.pg_pieces.pg_call.declared.reply.Reply.{Reply}
+use Rattle.pg_server.specs.pg_pieces.pg_call.declared.reply.Reply.TheVariants as reply
 use Rattle.pg_msg.specs.declared.message.Packet.{Packet}
 use Rattle.pg_msg.specs.declared.work.Work.{Work}
 use Rattle.pg_msg.specs.Numbers.{is_in_range}
 use Rattle.pg_msg.specs.Work.{new_work}
-use Rattle.pg_names.specs.Names.{NamesValue, new_names}
+use Rattle.pg_server.specs.pg_pieces.pg_names.Names.{NamesValue, new_names}
 use Rattle.pg_register.specs.Place.{root}
-use Rattle.pg_replica.specs.Root.{clean_edge, clean_edges, first_root}
+use Rattle.pg_server.specs.pg_pieces.pg_replica.Root.{clean_edge, clean_edges, first_root}
 use Rattle.pg_edges.specs.Edges.{put_edge}
-use Rattle.pg_store.specs.declared.store.Store.{Store}
-use Rattle.pg_store.specs.declared.wishes.Wish.{Wish}
-use Rattle.pg_store.specs.Births.{birth_of}
-use Rattle.pg_store.specs.Seen.{server_of, view_of}
-use Rattle.pg_store.specs.Servers.{is_live_other}
-use Rattle.pg_store.specs.Start.{first_flag, first_flags, root_own}
-use Rattle.pg_store.specs.Store.{is_before_clock_end}
-use Rattle.pg_house.proofs.Truths.{chosen}
+use Rattle.pg_server.specs.pg_pieces.pg_store.declared.store.Store.{Store}
+use Rattle.pg_server.specs.pg_pieces.pg_store.declared.wishes.Wish.{Wish}
+use Rattle.pg_server.specs.pg_pieces.pg_store.Births.{birth_of}
+use Rattle.pg_server.specs.pg_pieces.pg_store.Seen.{server_of, view_of}
+use Rattle.pg_server.specs.pg_pieces.pg_store.Servers.{is_live_other}
+use Rattle.pg_server.specs.pg_pieces.pg_store.Start.{first_flag, first_flags, root_own}
+use Rattle.pg_server.specs.pg_pieces.pg_store.Store.{is_before_clock_end}
+use Rattle.pg_server.proofs.pg_pieces.pg_house.Truths.{chosen}
 use Rattle.pg_server.specs.pg_cells.Sending.{cells_where, is_any}
 use Rattle.pg_server.specs.pg_cells.Ticks.{tick}
 use Rattle.pg_server.specs.pg_graph.Walks.{edges_of, most_hops, walk_from, walk_of, walk_of_tick, with_few_edges}

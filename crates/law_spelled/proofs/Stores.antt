@@ -13,28 +13,28 @@ use Rattle.pg_announced.specs.Announced.{NotesValue}
 use Rattle.pg_entries.specs.declared.entry.Entry.{Entry}
 use Rattle.pg_edges.specs.declared.key.Key.{Key}
 use Rattle.pg_edges.specs.declared.key.Key.TheVariants as key
-use Rattle.pg_intent.specs.declared.intent.Intent.{Intent}
-use Rattle.pg_intent.specs.declared.intent.Intent.TheVariants as intent
-use Rattle.pg_intent.specs.declared.key.IntentKey.{IntentKey}
-use Rattle.pg_intent.specs.Intents.{ended, intent_at}
+use Rattle.pg_server.specs.pg_pieces.pg_intent.declared.intent.Intent.{Intent}
+use Rattle.pg_server.specs.pg_pieces.pg_intent.declared.intent.Intent.TheVariants as intent
+use Rattle.pg_server.specs.pg_pieces.pg_intent.declared.key.IntentKey.{IntentKey}
+use Rattle.pg_server.specs.pg_pieces.pg_intent.Intents.{ended, intent_at}
 use Rattle.pg_msg.specs.declared.message.Message.{Message}
 use Rattle.pg_msg.specs.declared.work.Work.{Work}
 use Rattle.pg_msg.specs.Work.{with_linked, with_touched, with_unsure}
-use Rattle.pg_names.specs.declared.attributes.Attributes.{Attributes}
-use Rattle.pg_names.specs.Names.{NamesValue, join_entry, join_flag, join_place, own_or_blank}
+use Rattle.pg_server.specs.pg_pieces.pg_names.declared.attributes.Attributes.{Attributes}
+use Rattle.pg_server.specs.pg_pieces.pg_names.Names.{NamesValue, join_entry, join_flag, join_place, own_or_blank}
 use Rattle.pg_register.specs.declared.flag.Flag.{Flag}
 use Rattle.pg_register.specs.declared.place.Place.{Place}
-use Rattle.pg_replica.specs.declared.link.Link.{Link}
-use Rattle.pg_replica.specs.Replica.{new_replica, own_actor}
-use Rattle.pg_replica.specs.Replicas.{ByFile, replicas_linked, replicas_taking, replicas_touched, replicas_unlinked, replicas_writing}
-use Rattle.pg_store.specs.declared.store.Store.{Store}
-use Rattle.pg_store.specs.Beginning.{begin, let_go, patches_of, put_new, take_patch, take_patches, take_told, take_told_in, with_intents}
-use Rattle.pg_store.specs.Births.{with_birth, with_wishes}
-use Rattle.pg_store.specs.Links.{is_linked, is_new_link, keys, link, put_link, unlink}
-use Rattle.pg_store.specs.Store.{acknowledge, content_of, end_covered, entry_news, is_new_version, is_newer_entry, is_newer_flag, is_newer_place, keep_delta, put_entry, put_flag, put_place, put_version, replica_at, replica_of, take_entry, take_flag, take_place, take_version, touch, with_drawn, with_names, with_news, write}
-use Rattle.pg_store.specs.Wishes.{WishesValue}
-use Rattle.pg_house.specs.Work.{note_left}
-use Rattle.pg_house.proofs.Truths.{chosen}
+use Rattle.pg_server.specs.pg_pieces.pg_replica.declared.link.Link.{Link}
+use Rattle.pg_server.specs.pg_pieces.pg_replica.Replica.{new_replica, own_actor}
+use Rattle.pg_server.specs.pg_pieces.pg_replica.Replicas.{ByFile, replicas_linked, replicas_taking, replicas_touched, replicas_unlinked, replicas_writing}
+use Rattle.pg_server.specs.pg_pieces.pg_store.declared.store.Store.{Store}
+use Rattle.pg_server.specs.pg_pieces.pg_store.Beginning.{begin, let_go, patches_of, put_new, take_patch, take_patches, take_told, take_told_in, with_intents}
+use Rattle.pg_server.specs.pg_pieces.pg_store.Births.{with_birth, with_wishes}
+use Rattle.pg_server.specs.pg_pieces.pg_store.Links.{is_linked, is_new_link, keys, link, put_link, unlink}
+use Rattle.pg_server.specs.pg_pieces.pg_store.Store.{acknowledge, content_of, end_covered, entry_news, is_new_version, is_newer_entry, is_newer_flag, is_newer_place, keep_delta, put_entry, put_flag, put_place, put_version, replica_at, replica_of, take_entry, take_flag, take_place, take_version, touch, with_drawn, with_names, with_news, write}
+use Rattle.pg_server.specs.pg_pieces.pg_store.Wishes.{WishesValue}
+use Rattle.pg_server.specs.pg_pieces.pg_house.Work.{note_left}
+use Rattle.pg_server.proofs.pg_pieces.pg_house.Truths.{chosen}
 use Rattle.pg_server.specs.pg_pieces.Accepting.{link_peer, with_link}
 use Rattle.pg_server.specs.pg_pieces.Done.{Done, idle}
 use Rattle.pg_server.specs.pg_pieces.Posting.{post, sent_to}

@@ -3,8 +3,8 @@ use Rattle.std.specs.Prelude.{ℕ, ◌≤◌, Contains}
 use Rattle.pg_msg.specs.declared.message.Sent.{Sent}
 use Rattle.pg_server.specs.declared.input.Input.{Input}
 use Rattle.pg_server.specs.Local.{Effect, effect_of}
-use Rattle.pg_store.specs.declared.store.Store.{Store}
-use Rattle.pg_store.specs.Store.{new_store}
+use Rattle.pg_server.specs.pg_pieces.pg_store.declared.store.Store.{Store}
+use Rattle.pg_server.specs.pg_pieces.pg_store.Store.{new_store}
 use Rattle.law_spelled.specs.Messages.{FitsInput, FitsSent}
 use Rattle.law_spelled.specs.Stores.{FitsStore}
 

@@ -13,14 +13,14 @@ use Rattle.pg_entries.specs.declared.entry.Entry.{Entry}
 use Rattle.pg_edges.specs.declared.edge.Edge.{Edge}
 use Rattle.pg_announced.specs.declared.announced.Announced.{Announced}
 use Rattle.pg_announced.specs.declared.announced.NoteKey.{NoteKey}
-use Rattle.pg_intent.specs.declared.intent.Intent.{Intent}
-use Rattle.pg_intent.specs.declared.intent.Intent.TheVariants as intent
-use Rattle.pg_intent.specs.Intent.{target_of}
-use Rattle.pg_names.specs.declared.attributes.Attributes.{Attributes}
-use Rattle.pg_names.specs.Names.{InodeValue, NamesValue, known}
-use Rattle.pg_replica.specs.declared.replica.Replica.{Replica}
-use Rattle.pg_store.specs.declared.store.Store.{Store}
-use Rattle.pg_store.specs.declared.wishes.Wish.{Wish}
+use Rattle.pg_server.specs.pg_pieces.pg_intent.declared.intent.Intent.{Intent}
+use Rattle.pg_server.specs.pg_pieces.pg_intent.declared.intent.Intent.TheVariants as intent
+use Rattle.pg_server.specs.pg_pieces.pg_intent.Intent.{target_of}
+use Rattle.pg_server.specs.pg_pieces.pg_names.declared.attributes.Attributes.{Attributes}
+use Rattle.pg_server.specs.pg_pieces.pg_names.Names.{InodeValue, NamesValue, known}
+use Rattle.pg_server.specs.pg_pieces.pg_replica.declared.replica.Replica.{Replica}
+use Rattle.pg_server.specs.pg_pieces.pg_store.declared.store.Store.{Store}
+use Rattle.pg_server.specs.pg_pieces.pg_store.declared.wishes.Wish.{Wish}
 use Rattle.pg_packet_write.specs.Fits.{FitsHead, IsServer}
 
 -- a server, or 0 for none

@@ -1,48 +1,48 @@
 -- The version that a call makes: its stamp is drawn behind those of the places that the call makes.
 use Rattle.std.proofs.Common.{ℕ, ◌≡◌, ◌<◌, ◌≤◌, true, false, cond, List, [], ◌∷◌, ◌++◌, Option, None, Some, Result, refl, sym, ap, subst, ◌∙◌, inl, inr, arith}
-use Rattle.law_contents.specs.pg_run.pg_base.declared.id.FileId.{FileId}
-use Rattle.law_contents.specs.pg_run.pg_base.declared.id.Kind.{Kind}
-use Rattle.law_contents.specs.pg_run.pg_base.declared.id.Kind.TheVariants.{Dir, File}
-use Rattle.law_contents.specs.pg_run.pg_base.declared.policy.Policy.{Policy}
-use Rattle.law_contents.specs.pg_run.pg_base.declared.policy.Policy.TheVariants.{Last}
-use Rattle.law_contents.specs.pg_run.pg_base.declared.stamp.Stamp.{Stamp}
-use Rattle.law_contents.specs.pg_run.pg_call.declared.call.Call.{Call}
-use Rattle.law_contents.specs.pg_run.pg_call.declared.call.Call.TheVariants as call
-use Rattle.law_contents.specs.pg_run.pg_call.declared.reply.Reply.{Reply}
-use Rattle.law_contents.specs.pg_run.pg_content.Content.{Among}
-use Rattle.law_contents.specs.pg_run.pg_house.Work.{state_of}
-use Rattle.law_contents.specs.pg_run.pg_lookup.declared.paths.LookupError.{LookupError}
-use Rattle.law_contents.specs.pg_run.pg_msg.declared.update.MadeVersion.{MadeVersion}
-use Rattle.law_contents.specs.pg_run.pg_msg.declared.update.Update.{Update}
-use Rattle.law_contents.specs.pg_run.pg_msg.declared.update.Update.TheVariants as update
-use Rattle.law_contents.specs.pg_run.pg_msg.declared.work.Work.{Work}
-use Rattle.law_contents.specs.pg_run.pg_msg.Work.{new_work}
-use Rattle.law_contents.specs.pg_run.pg_names.Names.{blank_own, is_dir}
-use Rattle.law_contents.specs.pg_run.pg_patch.Ranges.{RangesValue, cut_to, written}
-use Rattle.law_contents.specs.pg_run.pg_register.declared.flag.Flag.{Flag}
-use Rattle.law_contents.specs.pg_run.pg_register.declared.place.Place.{Place}
-use Rattle.law_contents.specs.pg_run.pg_store.declared.store.Store.{Store}
-use Rattle.law_contents.specs.pg_run.pg_store.Births.{draw_birth, with_birth}
-use Rattle.law_contents.specs.pg_run.pg_store.Store.{is_held}
-use Rattle.law_contents.specs.pg_run.pg_pieces.Done.{Done, idle}
-use Rattle.law_contents.specs.pg_run.pg_pieces.Golds.{is_gold}
-use Rattle.law_contents.specs.pg_run.pg_pieces.Making.{lower_flag}
-use Rattle.law_contents.specs.pg_run.pg_checks.declared.checks.NewName.{NewName}
-use Rattle.law_contents.specs.pg_run.pg_checks.Answer.{Answer, deny, replied, told}
-use Rattle.law_contents.specs.pg_run.pg_checks.Checks.{dir_at, empty_dir_at, file_at, in_time, move_of, new_name, target_at}
-use Rattle.law_contents.specs.pg_run.pg_calls.Bodies.{change, change_file, when_fit}
-use Rattle.law_contents.specs.pg_run.pg_calls.Calls.{do_call}
-use Rattle.law_contents.specs.pg_run.pg_calls.Demoting.{demoted_at, lowered}
-use Rattle.law_contents.specs.pg_run.pg_calls.Dropping.{clean_gold, dropped_at, leave_of, leaving}
-use Rattle.law_contents.specs.pg_run.pg_calls.Forgetting.{begin_lost, begun_at, dirs_of, fill_lost, forget_lost, is_wanted, last_listing, last_place, lost_at, strike_out}
-use Rattle.law_contents.specs.pg_run.pg_calls.GivingUp.{enter_view, removal_at}
-use Rattle.law_contents.specs.pg_run.pg_calls.Making.{drawn, first_ranges, make_place, make_version, version_of}
-use Rattle.law_contents.specs.pg_run.pg_calls.Naming.{begun, dead_place, next_id, place_in, raised, with_first_version, with_id, with_thing}
-use Rattle.law_contents.specs.pg_run.pg_server.Local.{done_of}
-use Rattle.law_contents.specs.pg_run.Journal.{Born, versions_in}
-use Rattle.law_contents.proofs.pg_run.pg_house.Lasting.{drawn_late}
-use Rattle.law_contents.proofs.pg_run.pg_house.Noting.{one_back}
-use Rattle.law_contents.proofs.pg_run.theory_flood_pieces.Choices.{chosen, decided}
+use Rattle.pg_run.specs.pg_base.declared.id.FileId.{FileId}
+use Rattle.pg_run.specs.pg_base.declared.id.Kind.{Kind}
+use Rattle.pg_run.specs.pg_base.declared.id.Kind.TheVariants.{Dir, File}
+use Rattle.pg_run.specs.pg_base.declared.policy.Policy.{Policy}
+use Rattle.pg_run.specs.pg_base.declared.policy.Policy.TheVariants.{Last}
+use Rattle.pg_run.specs.pg_base.declared.stamp.Stamp.{Stamp}
+use Rattle.pg_run.specs.pg_call.declared.call.Call.{Call}
+use Rattle.pg_run.specs.pg_call.declared.call.Call.TheVariants as call
+use Rattle.pg_run.specs.pg_call.declared.reply.Reply.{Reply}
+use Rattle.pg_run.specs.pg_content.Content.{Among}
+use Rattle.pg_run.specs.pg_house.Work.{state_of}
+use Rattle.pg_run.specs.pg_lookup.declared.paths.LookupError.{LookupError}
+use Rattle.pg_run.specs.pg_msg.declared.update.MadeVersion.{MadeVersion}
+use Rattle.pg_run.specs.pg_msg.declared.update.Update.{Update}
+use Rattle.pg_run.specs.pg_msg.declared.update.Update.TheVariants as update
+use Rattle.pg_run.specs.pg_msg.declared.work.Work.{Work}
+use Rattle.pg_run.specs.pg_msg.Work.{new_work}
+use Rattle.pg_run.specs.pg_names.Names.{blank_own, is_dir}
+use Rattle.pg_run.specs.pg_patch.Ranges.{RangesValue, cut_to, written}
+use Rattle.pg_run.specs.pg_register.declared.flag.Flag.{Flag}
+use Rattle.pg_run.specs.pg_register.declared.place.Place.{Place}
+use Rattle.pg_run.specs.pg_store.declared.store.Store.{Store}
+use Rattle.pg_run.specs.pg_store.Births.{draw_birth, with_birth}
+use Rattle.pg_run.specs.pg_store.Store.{is_held}
+use Rattle.pg_run.specs.pg_pieces.Done.{Done, idle}
+use Rattle.pg_run.specs.pg_pieces.Golds.{is_gold}
+use Rattle.pg_run.specs.pg_pieces.Making.{lower_flag}
+use Rattle.pg_run.specs.pg_checks.declared.checks.NewName.{NewName}
+use Rattle.pg_run.specs.pg_checks.Answer.{Answer, deny, replied, told}
+use Rattle.pg_run.specs.pg_checks.Checks.{dir_at, empty_dir_at, file_at, in_time, move_of, new_name, target_at}
+use Rattle.pg_run.specs.pg_calls.Bodies.{change, change_file, when_fit}
+use Rattle.pg_run.specs.pg_calls.Calls.{do_call}
+use Rattle.pg_run.specs.pg_calls.Demoting.{demoted_at, lowered}
+use Rattle.pg_run.specs.pg_calls.Dropping.{clean_gold, dropped_at, leave_of, leaving}
+use Rattle.pg_run.specs.pg_calls.Forgetting.{begin_lost, begun_at, dirs_of, fill_lost, forget_lost, is_wanted, last_listing, last_place, lost_at, strike_out}
+use Rattle.pg_run.specs.pg_calls.GivingUp.{enter_view, removal_at}
+use Rattle.pg_run.specs.pg_calls.Making.{drawn, first_ranges, make_place, make_version, version_of}
+use Rattle.pg_run.specs.pg_calls.Naming.{begun, dead_place, next_id, place_in, raised, with_first_version, with_id, with_thing}
+use Rattle.pg_run.specs.pg_server.Local.{done_of}
+use Rattle.pg_run.specs.Journal.{Born, versions_in}
+use Rattle.pg_run.proofs.pg_house.Lasting.{drawn_late}
+use Rattle.pg_run.proofs.pg_house.Noting.{one_back}
+use Rattle.pg_run.proofs.theory_flood_pieces.Choices.{chosen, decided}
 use Rattle.law_contents.proofs.Beginning.{thing_quiet, versions_more}
 use Rattle.law_contents.proofs.Entered.{entered_quiet}
 use Rattle.law_contents.proofs.Lost.{at_quiet, filled_quiet, struck_quiet}

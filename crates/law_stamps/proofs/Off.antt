@@ -1,38 +1,38 @@
 -- Places that are made behind a time are none of that time.
 use Rattle.std.proofs.Common.{ℕ, ◌≡◌, ◌≢◌, ◌<◌, ◌≤◌, true, List, [], ◌∷◌, ◌++◌, length, drop, Option, None, Some, refl, ap, subst, ◌∙◌, inl, inr, arith}
-use Rattle.law_contents.specs.pg_run.pg_base.declared.id.FileId.{FileId}
-use Rattle.law_contents.specs.pg_run.pg_edges.declared.key.Key.TheVariants as key
-use Rattle.law_contents.specs.pg_run.pg_house.Cycles.{break_first, first_moving, moved}
-use Rattle.law_contents.specs.pg_run.pg_house.Facts.{IsOneOf}
-use Rattle.law_contents.specs.pg_run.pg_house.House.{house, movable}
-use Rattle.law_contents.specs.pg_run.pg_house.Passing.{pass_all}
-use Rattle.law_contents.specs.pg_run.pg_house.Placing.{drawn, live_place, made_at, place_at, placed}
-use Rattle.law_contents.specs.pg_run.pg_house.Returning.{first_returning, return_first, returned}
-use Rattle.law_contents.specs.pg_run.pg_house.Work.{State, state_of}
-use Rattle.law_contents.specs.pg_run.pg_msg.declared.update.Update.{Update}
-use Rattle.law_contents.specs.pg_run.pg_msg.declared.update.Update.TheVariants as update
-use Rattle.law_contents.specs.pg_run.pg_msg.declared.work.Work.{Work}
-use Rattle.law_contents.specs.pg_run.pg_msg.Work.{with_made, with_touched}
-use Rattle.law_contents.specs.pg_run.pg_names.Names.{NamesValue, directories}
-use Rattle.law_contents.specs.pg_run.pg_names.Names as names
-use Rattle.law_contents.specs.pg_run.pg_pieces.Done.{Done}
-use Rattle.law_contents.specs.pg_run.pg_pieces.Making.{own_next, raise_flag}
-use Rattle.law_contents.specs.pg_run.pg_cells.Settling.{rules}
-use Rattle.law_contents.specs.pg_run.pg_register.declared.flag.Flag.{Flag}
-use Rattle.law_contents.specs.pg_run.pg_register.declared.place.Place.{Place}
-use Rattle.law_contents.specs.pg_run.pg_register.Place.{root, tilde_name}
-use Rattle.law_contents.specs.pg_run.pg_server.Local.{intended, settled}
-use Rattle.law_contents.specs.pg_run.pg_store.declared.store.Store.{Store}
-use Rattle.law_contents.specs.pg_run.pg_store.Store.{is_newer_flag, put_flag, take_flag, with_names}
-use Rattle.law_contents.proofs.pg_run.pg_cells.Settled.{settle_keeps}
-use Rattle.law_contents.proofs.pg_run.pg_house.Drawn.{IsMade}
-use Rattle.law_contents.proofs.pg_run.pg_house.Lasting.{drawn_late, pass_all_last, placed_last}
-use Rattle.law_contents.proofs.pg_run.pg_house.Made.{all_made, left_made, pass_made}
-use Rattle.law_contents.proofs.pg_run.pg_house.Noting.{one_back}
-use Rattle.law_contents.proofs.pg_run.pg_house.Repeating.{repeated_keeps}
-use Rattle.law_contents.proofs.pg_run.pg_intentions.Steady.{begin_end_stays}
-use Rattle.law_contents.proofs.pg_run.pg_names.Lookups.{update_frame}
-use Rattle.law_contents.proofs.pg_run.theory_flood_pieces.Choices.{chosen}
+use Rattle.pg_run.specs.pg_base.declared.id.FileId.{FileId}
+use Rattle.pg_run.specs.pg_edges.declared.key.Key.TheVariants as key
+use Rattle.pg_run.specs.pg_house.Cycles.{break_first, first_moving, moved}
+use Rattle.pg_run.specs.pg_house.Facts.{IsOneOf}
+use Rattle.pg_run.specs.pg_house.House.{house, movable}
+use Rattle.pg_run.specs.pg_house.Passing.{pass_all}
+use Rattle.pg_run.specs.pg_house.Placing.{drawn, live_place, made_at, place_at, placed}
+use Rattle.pg_run.specs.pg_house.Returning.{first_returning, return_first, returned}
+use Rattle.pg_run.specs.pg_house.Work.{State, state_of}
+use Rattle.pg_run.specs.pg_msg.declared.update.Update.{Update}
+use Rattle.pg_run.specs.pg_msg.declared.update.Update.TheVariants as update
+use Rattle.pg_run.specs.pg_msg.declared.work.Work.{Work}
+use Rattle.pg_run.specs.pg_msg.Work.{with_made, with_touched}
+use Rattle.pg_run.specs.pg_names.Names.{NamesValue, directories}
+use Rattle.pg_run.specs.pg_names.Names as names
+use Rattle.pg_run.specs.pg_pieces.Done.{Done}
+use Rattle.pg_run.specs.pg_pieces.Making.{own_next, raise_flag}
+use Rattle.pg_run.specs.pg_cells.Settling.{rules}
+use Rattle.pg_run.specs.pg_register.declared.flag.Flag.{Flag}
+use Rattle.pg_run.specs.pg_register.declared.place.Place.{Place}
+use Rattle.pg_run.specs.pg_register.Place.{root, tilde_name}
+use Rattle.pg_run.specs.pg_server.Local.{intended, settled}
+use Rattle.pg_run.specs.pg_store.declared.store.Store.{Store}
+use Rattle.pg_run.specs.pg_store.Store.{is_newer_flag, put_flag, take_flag, with_names}
+use Rattle.pg_run.proofs.pg_cells.Settled.{settle_keeps}
+use Rattle.pg_run.proofs.pg_house.Drawn.{IsMade}
+use Rattle.pg_run.proofs.pg_house.Lasting.{drawn_late, pass_all_last, placed_last}
+use Rattle.pg_run.proofs.pg_house.Made.{all_made, left_made, pass_made}
+use Rattle.pg_run.proofs.pg_house.Noting.{one_back}
+use Rattle.pg_run.proofs.pg_house.Repeating.{repeated_keeps}
+use Rattle.pg_run.proofs.pg_intentions.Steady.{begin_end_stays}
+use Rattle.pg_run.proofs.pg_names.Lookups.{update_frame}
+use Rattle.pg_run.proofs.theory_flood_pieces.Choices.{chosen}
 use Rattle.law_places.proofs.Behind.{touched_names}
 use Rattle.law_places.proofs.Fine.{news_made}
 

@@ -1,18 +1,18 @@
 -- Of the root no replica is to come, and none goes.
 use Rattle.std.proofs.Common.{ℕ, ◌≡◌, ◌&&◌, not, Bool, true, false, Option, None, Some, refl, sym, ap, ◌∙◌, inl, inr}
 use Rattle.std.proofs.lemmas.Bool.{false≢true}
-use Rattle.law_contents.specs.pg_run.pg_base.declared.id.FileId.{FileId}
-use Rattle.law_contents.specs.pg_run.pg_base.Id.{is_same_file}
-use Rattle.law_contents.specs.pg_run.pg_register.Place.{root}
-use Rattle.law_contents.specs.pg_run.pg_store.declared.store.Store.{Store}
-use Rattle.law_contents.specs.pg_run.pg_store.declared.wishes.Wish.{Wish}
-use Rattle.law_contents.specs.pg_run.pg_store.Births.{fill_at, is_fill_at, is_pending, wish_at}
-use Rattle.law_contents.specs.pg_run.pg_store.Store.{is_held}
-use Rattle.law_contents.specs.pg_run.pg_store.Wishes.{is_with_birth}
-use Rattle.law_contents.specs.pg_run.Intending.{HoldsBoth, IntendsInOrder}
-use Rattle.law_contents.proofs.pg_run.pg_base.Orders.{is_same_file-true}
-use Rattle.law_contents.proofs.pg_run.pg_calls.Walked.{full_held}
-use Rattle.law_contents.proofs.pg_run.pg_house.Truths.{or_cases}
+use Rattle.pg_run.specs.pg_base.declared.id.FileId.{FileId}
+use Rattle.pg_run.specs.pg_base.Id.{is_same_file}
+use Rattle.pg_run.specs.pg_register.Place.{root}
+use Rattle.pg_run.specs.pg_store.declared.store.Store.{Store}
+use Rattle.pg_run.specs.pg_store.declared.wishes.Wish.{Wish}
+use Rattle.pg_run.specs.pg_store.Births.{fill_at, is_fill_at, is_pending, wish_at}
+use Rattle.pg_run.specs.pg_store.Store.{is_held}
+use Rattle.pg_run.specs.pg_store.Wishes.{is_with_birth}
+use Rattle.pg_run.specs.Intending.{HoldsBoth, IntendsInOrder}
+use Rattle.pg_run.proofs.pg_base.Orders.{is_same_file-true}
+use Rattle.pg_run.proofs.pg_calls.Walked.{full_held}
+use Rattle.pg_run.proofs.pg_house.Truths.{or_cases}
 use Rattle.law_places.proofs.Leaving.{RootStays}
 
 module _ (a : Store) (k : HoldsBoth a) where

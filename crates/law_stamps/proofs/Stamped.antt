@@ -1,26 +1,26 @@
 -- In every world that a run reaches no version has the stamp of a place.
 use Rattle.std.proofs.Common.{ℕ, ◌≡◌, ◌≢◌, ◌<◌, ◌≤◌, ◌^◌, List, [], Option, refl, sym, ap, subst, ◌∙◌, inl, inr, ◌⊎◌, arith}
 use Rattle.std.proofs.lemmas.List.Elements.{All-contains, All-nil}
-use Rattle.law_contents.specs.pg_run.pg_base.declared.id.FileId.{FileId}
-use Rattle.law_contents.specs.pg_run.pg_base.declared.stamp.Stamp.{Stamp}
-use Rattle.law_contents.specs.pg_run.pg_call.declared.call.Call.{Call}
-use Rattle.law_contents.specs.pg_run.pg_content.Content.{Among}
-use Rattle.law_contents.specs.pg_run.pg_event.declared.entry.VoidCause.{VoidCause}
-use Rattle.law_contents.specs.pg_run.pg_event.declared.event.Event.{Event}
-use Rattle.law_contents.specs.pg_run.pg_msg.declared.update.MadeVersion.{MadeVersion}
-use Rattle.law_contents.specs.pg_run.pg_msg.Work.{new_work}
-use Rattle.law_contents.specs.pg_run.pg_register.declared.place.Place.{Place}
-use Rattle.law_contents.specs.pg_run.pg_server.declared.input.Input.{Input}
-use Rattle.law_contents.specs.pg_run.pg_server.declared.input.Input.TheVariants as input
-use Rattle.law_contents.specs.pg_run.pg_server.Local.{Effect, closed, effect, finished, first_effect, reply_to, takes_effect}
-use Rattle.law_contents.specs.pg_run.pg_store.declared.store.Store.{Store}
-use Rattle.law_contents.specs.pg_run.pg_pieces.Done.{Done, idle}
-use Rattle.law_contents.specs.pg_run.Journal.{Born, born_at, born_in, mail, versions_in}
-use Rattle.law_contents.specs.pg_run.Run.{Taking, World, effect_step, idle_step, run, world_after}
-use Rattle.law_contents.proofs.pg_run.pg_content.Members.{among_map}
-use Rattle.law_contents.proofs.pg_run.theory_flood_pieces.Choices.{chosen}
-use Rattle.law_contents.proofs.pg_run.Frame.{Acts, HasCome, holds_in_runs, no_server_comes}
-use Rattle.law_contents.proofs.pg_run.Lists.{among_parts, contained_among}
+use Rattle.pg_run.specs.pg_base.declared.id.FileId.{FileId}
+use Rattle.pg_run.specs.pg_base.declared.stamp.Stamp.{Stamp}
+use Rattle.pg_run.specs.pg_call.declared.call.Call.{Call}
+use Rattle.pg_run.specs.pg_content.Content.{Among}
+use Rattle.pg_run.specs.pg_event.declared.entry.VoidCause.{VoidCause}
+use Rattle.pg_run.specs.pg_event.declared.event.Event.{Event}
+use Rattle.pg_run.specs.pg_msg.declared.update.MadeVersion.{MadeVersion}
+use Rattle.pg_run.specs.pg_msg.Work.{new_work}
+use Rattle.pg_run.specs.pg_register.declared.place.Place.{Place}
+use Rattle.pg_run.specs.pg_server.declared.input.Input.{Input}
+use Rattle.pg_run.specs.pg_server.declared.input.Input.TheVariants as input
+use Rattle.pg_run.specs.pg_server.Local.{Effect, closed, effect, finished, first_effect, reply_to, takes_effect}
+use Rattle.pg_run.specs.pg_store.declared.store.Store.{Store}
+use Rattle.pg_run.specs.pg_pieces.Done.{Done, idle}
+use Rattle.pg_run.specs.Journal.{Born, born_at, born_in, mail, versions_in}
+use Rattle.pg_run.specs.Run.{Taking, World, effect_step, idle_step, run, world_after}
+use Rattle.pg_run.proofs.pg_content.Members.{among_map}
+use Rattle.pg_run.proofs.theory_flood_pieces.Choices.{chosen}
+use Rattle.pg_run.proofs.Frame.{Acts, HasCome, holds_in_runs, no_server_comes}
+use Rattle.pg_run.proofs.Lists.{among_parts, contained_among}
 use Rattle.law_contents.specs.Together.{StandOn}
 use Rattle.law_contents.proofs.Carrying.{policies}
 use Rattle.law_contents.proofs.Ends.{closed_ends}

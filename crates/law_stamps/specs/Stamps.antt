@@ -1,12 +1,12 @@
 -- Stamps are drawn once: statements on all runs.
 use Rattle.std.specs.Prelude.{ℕ, ◌≢◌, Contains, List}
-use Rattle.law_contents.specs.pg_run.pg_base.declared.id.FileId.{FileId}
-use Rattle.law_contents.specs.pg_run.pg_event.declared.event.Event.{Event}
-use Rattle.law_contents.specs.pg_run.pg_register.declared.place.Place.{Place}
-use Rattle.law_contents.specs.pg_run.Histories.{OneVersionAStamp}
-use Rattle.law_contents.specs.pg_run.Journal.{Born}
-use Rattle.law_contents.specs.pg_run.Known.{WasMade}
-use Rattle.law_contents.specs.pg_run.Run.{run}
+use Rattle.pg_run.specs.pg_base.declared.id.FileId.{FileId}
+use Rattle.pg_run.specs.pg_event.declared.event.Event.{Event}
+use Rattle.pg_run.specs.pg_register.declared.place.Place.{Place}
+use Rattle.pg_run.specs.Histories.{OneVersionAStamp}
+use Rattle.pg_run.specs.Journal.{Born}
+use Rattle.pg_run.specs.Known.{WasMade}
+use Rattle.pg_run.specs.Run.{run}
 use Rattle.law_places.specs.Laws.{OneMadePlaceAStamp}
 
 -- no version that was made has the stamp of a place that was made, be it of another thing

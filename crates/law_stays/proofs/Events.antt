@@ -1,34 +1,34 @@
 -- Each part of an event keeps who a server is, and so an event does.
 use Rattle.std.proofs.Common.{[], ℕ, true, false, List, ◌∷◌, drop, length, refl}
-use Rattle.pg_run.specs.pg_base.declared.id.FileId.{FileId}
-use Rattle.pg_run.specs.pg_base.declared.policy.Policy.TheVariants.{Last}
-use Rattle.pg_run.specs.pg_call.declared.call.Call.{Call}
-use Rattle.pg_run.specs.pg_calls.Calls.{do_call}
-use Rattle.pg_run.specs.pg_calls.Forgetting.{bare_entry, dead_at, unfilled}
-use Rattle.pg_run.specs.pg_calls.Naming.{next_id, with_id}
-use Rattle.pg_run.specs.pg_cells.Settling.{rules, touch_all}
-use Rattle.pg_run.specs.pg_house.House.{house}
-use Rattle.pg_run.specs.pg_house.Work.{state_of}
-use Rattle.pg_run.specs.pg_msg.declared.message.Message.{Message}
-use Rattle.pg_run.specs.pg_msg.declared.message.Packet.{Packet}
-use Rattle.pg_run.specs.pg_msg.declared.work.Touched.{Touched}
-use Rattle.pg_run.specs.pg_msg.declared.work.Work.{Work}
-use Rattle.pg_run.specs.pg_msg.Work.{new_work}
-use Rattle.pg_run.specs.pg_names.Names as names
-use Rattle.pg_run.specs.pg_names.Names.{blank_own}
-use Rattle.pg_run.specs.pg_pieces.Done.{Done}
-use Rattle.pg_run.specs.pg_pieces.Making.{own_next}
-use Rattle.pg_run.specs.pg_repair.Granting.{granted_own}
-use Rattle.pg_run.specs.pg_server.declared.input.Input.{Input}
-use Rattle.pg_run.specs.pg_server.declared.input.Input.TheVariants as input
-use Rattle.pg_run.specs.pg_server.Local.{effect, intended, receive, settled}
-use Rattle.pg_run.specs.pg_store.declared.store.Store.{Store}
-use Rattle.pg_run.specs.pg_store.Births.{draw_birth, with_birth}
-use Rattle.pg_run.specs.pg_store.Store.{touch, with_names}
-use Rattle.pg_run.proofs.Event.{Comes, store_kept}
-use Rattle.pg_run.proofs.pg_cells.Settled.{settle_keeps}
-use Rattle.pg_run.proofs.pg_house.Keys.{rules_by}
-use Rattle.pg_run.proofs.pg_names.Lookups.{update_frame}
+use Rattle.law_frame.specs.pg_run.pg_base.declared.id.FileId.{FileId}
+use Rattle.law_frame.specs.pg_run.pg_base.declared.policy.Policy.TheVariants.{Last}
+use Rattle.law_frame.specs.pg_run.pg_call.declared.call.Call.{Call}
+use Rattle.law_frame.specs.pg_run.pg_calls.Calls.{do_call}
+use Rattle.law_frame.specs.pg_run.pg_calls.Forgetting.{bare_entry, dead_at, unfilled}
+use Rattle.law_frame.specs.pg_run.pg_calls.Naming.{next_id, with_id}
+use Rattle.law_frame.specs.pg_run.pg_cells.Settling.{rules, touch_all}
+use Rattle.law_frame.specs.pg_run.pg_house.House.{house}
+use Rattle.law_frame.specs.pg_run.pg_house.Work.{state_of}
+use Rattle.law_frame.specs.pg_run.pg_msg.declared.message.Message.{Message}
+use Rattle.law_frame.specs.pg_run.pg_msg.declared.message.Packet.{Packet}
+use Rattle.law_frame.specs.pg_run.pg_msg.declared.work.Touched.{Touched}
+use Rattle.law_frame.specs.pg_run.pg_msg.declared.work.Work.{Work}
+use Rattle.law_frame.specs.pg_run.pg_msg.Work.{new_work}
+use Rattle.law_frame.specs.pg_run.pg_names.Names as names
+use Rattle.law_frame.specs.pg_run.pg_names.Names.{blank_own}
+use Rattle.law_frame.specs.pg_run.pg_pieces.Done.{Done}
+use Rattle.law_frame.specs.pg_run.pg_pieces.Making.{own_next}
+use Rattle.law_frame.specs.pg_run.pg_repair.Granting.{granted_own}
+use Rattle.law_frame.specs.pg_run.pg_server.declared.input.Input.{Input}
+use Rattle.law_frame.specs.pg_run.pg_server.declared.input.Input.TheVariants as input
+use Rattle.law_frame.specs.pg_run.pg_server.Local.{effect, intended, receive, settled}
+use Rattle.law_frame.specs.pg_run.pg_store.declared.store.Store.{Store}
+use Rattle.law_frame.specs.pg_run.pg_store.Births.{draw_birth, with_birth}
+use Rattle.law_frame.specs.pg_run.pg_store.Store.{touch, with_names}
+use Rattle.law_frame.proofs.pg_run.Event.{Comes, store_kept}
+use Rattle.law_frame.proofs.pg_run.pg_cells.Settled.{settle_keeps}
+use Rattle.law_frame.proofs.pg_run.pg_house.Keys.{rules_by}
+use Rattle.law_frame.proofs.pg_run.pg_names.Lookups.{update_frame}
 use Rattle.law_frame.proofs.Called.{call_keeps}
 use Rattle.law_frame.proofs.Ended.{fill_born, intents_keep}
 use Rattle.law_frame.proofs.Keeps.{Keeps}

@@ -1,7 +1,7 @@
 -- Who a server is.
 use Rattle.std.specs.Prelude.{◌≡◌}
-use Rattle.pg_run.specs.pg_store.declared.store.Store.{Store}
-use Rattle.pg_run.specs.pg_store.Seen.{server_of}
+use Rattle.law_frame.specs.pg_run.pg_store.declared.store.Store.{Store}
+use Rattle.law_frame.specs.pg_run.pg_store.Seen.{server_of}
 
 -- it has the number that it had, and is one of as many
 abbrev pub IsSameServer : (old new : Store) → Type 0

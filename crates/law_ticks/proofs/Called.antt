@@ -1,21 +1,21 @@
 -- What each piece of an event keeps, every call keeps.
 use Rattle.std.proofs.Common.{true, refl}
-use Rattle.pg_run.specs.pg_base.declared.policy.Policy.TheVariants.{Last}
-use Rattle.pg_run.specs.pg_call.declared.call.Call.{Call}
-use Rattle.pg_run.specs.pg_calls.Calls.{do_call}
-use Rattle.pg_run.specs.pg_calls.Dropping.{leave_of}
-use Rattle.pg_run.specs.pg_calls.Forgetting.{bare_entry, dead_at, unfilled, unwished}
-use Rattle.pg_run.specs.pg_calls.Making.{drawn}
-use Rattle.pg_run.specs.pg_calls.Naming.{next_id, with_id}
-use Rattle.pg_run.specs.pg_checks.Asking.{fresh_wish, holder}
-use Rattle.pg_run.specs.pg_msg.declared.work.Work.{Work}
-use Rattle.pg_run.specs.pg_names.Names.{blank_own}
-use Rattle.pg_run.specs.pg_pieces.Done.{Done}
-use Rattle.pg_run.specs.pg_pieces.Intending.{begin_intent}
-use Rattle.pg_run.specs.pg_pieces.Making.{own_next}
-use Rattle.pg_run.specs.pg_store.declared.store.Store.{Store}
-use Rattle.pg_run.specs.pg_store.Births.{draw_birth, with_birth, with_wish}
-use Rattle.pg_run.proofs.theory_flood_pieces.Views.{enter_by}
+use Rattle.law_frame.specs.pg_run.pg_base.declared.policy.Policy.TheVariants.{Last}
+use Rattle.law_frame.specs.pg_run.pg_call.declared.call.Call.{Call}
+use Rattle.law_frame.specs.pg_run.pg_calls.Calls.{do_call}
+use Rattle.law_frame.specs.pg_run.pg_calls.Dropping.{leave_of}
+use Rattle.law_frame.specs.pg_run.pg_calls.Forgetting.{bare_entry, dead_at, unfilled, unwished}
+use Rattle.law_frame.specs.pg_run.pg_calls.Making.{drawn}
+use Rattle.law_frame.specs.pg_run.pg_calls.Naming.{next_id, with_id}
+use Rattle.law_frame.specs.pg_run.pg_checks.Asking.{fresh_wish, holder}
+use Rattle.law_frame.specs.pg_run.pg_msg.declared.work.Work.{Work}
+use Rattle.law_frame.specs.pg_run.pg_names.Names.{blank_own}
+use Rattle.law_frame.specs.pg_run.pg_pieces.Done.{Done}
+use Rattle.law_frame.specs.pg_run.pg_pieces.Intending.{begin_intent}
+use Rattle.law_frame.specs.pg_run.pg_pieces.Making.{own_next}
+use Rattle.law_frame.specs.pg_run.pg_store.declared.store.Store.{Store}
+use Rattle.law_frame.specs.pg_run.pg_store.Births.{draw_birth, with_birth, with_wish}
+use Rattle.law_frame.proofs.pg_run.theory_flood_pieces.Views.{enter_by}
 use Rattle.law_frame.proofs.Called.{call_keeps}
 use Rattle.law_frame.proofs.KeepsCalls.{KeepsCalls}
 use Rattle.law_ticks.proofs.Pieces.{OutlivesPieces}

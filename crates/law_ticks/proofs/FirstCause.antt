@@ -3,20 +3,20 @@ use Rattle.std.proofs.Common.{ℕ, zero, suc, ◌≡◌, ◌≢◌, ◌≤◌, �
 use Rattle.std.specs.Prelude.{slice_get}
 use Rattle.std.proofs.lemmas.Bool.{eqb-true}
 use Rattle.std.proofs.lemmas.Option.{none-some, same_Some}
-use Rattle.pg_run.specs.pg_event.declared.quiet.Cause.{Cause}
-use Rattle.pg_run.specs.pg_event.declared.quiet.Cause.TheVariants.{Message, Owed, View}
-use Rattle.pg_run.specs.pg_event.declared.quiet.Owing.{Owing}
-use Rattle.pg_run.specs.pg_event.declared.quiet.Quiet.TheVariants.{Quiet, Waits}
-use Rattle.pg_run.specs.pg_msg.declared.message.Sent.{Sent}
-use Rattle.pg_run.specs.pg_msg.Sent.{summary}
-use Rattle.pg_run.specs.pg_server.Owing.{owed}
-use Rattle.pg_run.specs.pg_store.Seen.{view_of}
-use Rattle.pg_run.proofs.theory_flood_pieces.Choices.{decided}
-use Rattle.pg_run.specs.Journal.{bag, removals}
-use Rattle.pg_run.specs.Quiet.{causes, first_of, lag, of_live}
-use Rattle.pg_run.specs.Run.{World, is_live}
-use Rattle.pg_run.proofs.Frame.{live_is}
-use Rattle.pg_run.proofs.QuietAnswers.{at_or_below, live_below, live_none, map_empty, no_lag, none_live, view_last}
+use Rattle.law_frame.specs.pg_run.pg_event.declared.quiet.Cause.{Cause}
+use Rattle.law_frame.specs.pg_run.pg_event.declared.quiet.Cause.TheVariants.{Message, Owed, View}
+use Rattle.law_frame.specs.pg_run.pg_event.declared.quiet.Owing.{Owing}
+use Rattle.law_frame.specs.pg_run.pg_event.declared.quiet.Quiet.TheVariants.{Quiet, Waits}
+use Rattle.law_frame.specs.pg_run.pg_msg.declared.message.Sent.{Sent}
+use Rattle.law_frame.specs.pg_run.pg_msg.Sent.{summary}
+use Rattle.law_frame.specs.pg_run.pg_server.Owing.{owed}
+use Rattle.law_frame.specs.pg_run.pg_store.Seen.{view_of}
+use Rattle.law_frame.proofs.pg_run.theory_flood_pieces.Choices.{decided}
+use Rattle.law_frame.specs.pg_run.Journal.{bag, removals}
+use Rattle.law_frame.specs.pg_run.Quiet.{causes, first_of, lag, of_live}
+use Rattle.law_frame.specs.pg_run.Run.{World, is_live}
+use Rattle.law_frame.proofs.pg_run.Frame.{live_is}
+use Rattle.law_frame.proofs.pg_run.QuietAnswers.{at_or_below, live_below, live_none, map_empty, no_lag, none_live, view_last}
 use Rattle.law_ticks.specs.Laws.{FirstCauseIsTold, IsFirstCause, IsFirstOwed, IsFirstView}
 
 -- ---- the first of what all live servers give

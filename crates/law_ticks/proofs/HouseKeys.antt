@@ -2,39 +2,39 @@
 use Rattle.std.proofs.Common.{ℕ, ◌≡◌, Bool, true, false, List, [], ◌∷◌, drop, length, Option, None, Some, refl, sym, ap, subst, ◌∙◌, inl, inr, ◌⊎◌}
 use Rattle.std.proofs.lemmas.Option.{none-some}
 use Rattle.std.proofs.lemmas.Bool.{or_left, or_right}
-use Rattle.pg_run.specs.pg_base.declared.id.FileId.{FileId}
-use Rattle.pg_run.specs.pg_base.Id.{is_same_file}
-use Rattle.pg_run.proofs.pg_base.Orders.{is_same_file-refl}
-use Rattle.pg_run.specs.pg_edges.declared.key.Key.{Key}
-use Rattle.pg_run.specs.pg_edges.declared.key.Key.TheVariants as key
-use Rattle.pg_run.specs.pg_register.declared.place.Place.{Place}
-use Rattle.pg_run.specs.pg_register.Flag.{flag_of}
-use Rattle.pg_run.specs.pg_register.Place.{root, tilde_name}
-use Rattle.pg_run.specs.pg_entries.declared.entry.Entry.{Entry}
-use Rattle.pg_run.specs.pg_msg.declared.work.Touched.{Touched}
-use Rattle.pg_run.specs.pg_msg.declared.update.Update.TheVariants as update
-use Rattle.pg_run.specs.pg_msg.declared.work.Work.{Work}
-use Rattle.pg_run.specs.pg_msg.Work.{with_made, with_touched}
-use Rattle.pg_run.specs.pg_names.declared.attributes.Attributes.{Attributes}
-use Rattle.pg_run.specs.pg_names.Names.{InodeValue, NamesValue, cell_at, changed, directories, known, or_blank, own_at, own_of, set_own, with_last, with_own}
-use Rattle.pg_run.specs.pg_names.Same.{is_same_own}
-use Rattle.pg_run.proofs.pg_names.Lookups.{own_cell, own_other, own_same}
-use Rattle.pg_run.specs.pg_house.Facts.{IsHeld, IsIn, is_among}
-use Rattle.pg_run.specs.pg_house.Work.{State, state_of}
-use Rattle.pg_run.specs.pg_house.Passing.{greatest, is_held_back, joined_with, own_taken, pass, pass_all, pass_own, spread, taking, took}
-use Rattle.pg_run.specs.pg_house.Placing.{drawn, flags_of, live_place, made_at, own_with, place_at, placed}
-use Rattle.pg_run.specs.pg_house.Returning.{first_returning, return_first, returned}
-use Rattle.pg_run.specs.pg_house.Cycles.{break_first, first_moving, moved}
-use Rattle.pg_run.specs.pg_house.House.{house, movable}
-use Rattle.pg_run.proofs.pg_house.Repeating.{repeated_keeps}
-use Rattle.pg_run.proofs.pg_house.Settling.{dirs_held}
-use Rattle.pg_run.proofs.pg_house.Spreading.{spread_own}
-use Rattle.pg_run.specs.theory_flood_pieces.UpTo.{AreFlagsUpTo}
-use Rattle.pg_run.proofs.theory_flood_pieces.Choices.{chosen}
-use Rattle.pg_run.proofs.theory_flood_pieces.Flags.{flags_joined}
-use Rattle.pg_run.proofs.theory_flood_pieces.Growth.{OneOwn}
-use Rattle.pg_run.proofs.theory_flood_pieces.UpTo.{flags_further, flags_themselves}
-use Rattle.pg_run.proofs.theory_flood_pieces.Front.{Alone, ends, new_keys, with_lists}
+use Rattle.law_frame.specs.pg_run.pg_base.declared.id.FileId.{FileId}
+use Rattle.law_frame.specs.pg_run.pg_base.Id.{is_same_file}
+use Rattle.law_frame.proofs.pg_run.pg_base.Orders.{is_same_file-refl}
+use Rattle.law_frame.specs.pg_run.pg_edges.declared.key.Key.{Key}
+use Rattle.law_frame.specs.pg_run.pg_edges.declared.key.Key.TheVariants as key
+use Rattle.law_frame.specs.pg_run.pg_register.declared.place.Place.{Place}
+use Rattle.law_frame.specs.pg_run.pg_register.Flag.{flag_of}
+use Rattle.law_frame.specs.pg_run.pg_register.Place.{root, tilde_name}
+use Rattle.law_frame.specs.pg_run.pg_entries.declared.entry.Entry.{Entry}
+use Rattle.law_frame.specs.pg_run.pg_msg.declared.work.Touched.{Touched}
+use Rattle.law_frame.specs.pg_run.pg_msg.declared.update.Update.TheVariants as update
+use Rattle.law_frame.specs.pg_run.pg_msg.declared.work.Work.{Work}
+use Rattle.law_frame.specs.pg_run.pg_msg.Work.{with_made, with_touched}
+use Rattle.law_frame.specs.pg_run.pg_names.declared.attributes.Attributes.{Attributes}
+use Rattle.law_frame.specs.pg_run.pg_names.Names.{InodeValue, NamesValue, cell_at, changed, directories, known, or_blank, own_at, own_of, set_own, with_last, with_own}
+use Rattle.law_frame.specs.pg_run.pg_names.Same.{is_same_own}
+use Rattle.law_frame.proofs.pg_run.pg_names.Lookups.{own_cell, own_other, own_same}
+use Rattle.law_frame.specs.pg_run.pg_house.Facts.{IsHeld, IsIn, is_among}
+use Rattle.law_frame.specs.pg_run.pg_house.Work.{State, state_of}
+use Rattle.law_frame.specs.pg_run.pg_house.Passing.{greatest, is_held_back, joined_with, own_taken, pass, pass_all, pass_own, spread, taking, took}
+use Rattle.law_frame.specs.pg_run.pg_house.Placing.{drawn, flags_of, live_place, made_at, own_with, place_at, placed}
+use Rattle.law_frame.specs.pg_run.pg_house.Returning.{first_returning, return_first, returned}
+use Rattle.law_frame.specs.pg_run.pg_house.Cycles.{break_first, first_moving, moved}
+use Rattle.law_frame.specs.pg_run.pg_house.House.{house, movable}
+use Rattle.law_frame.proofs.pg_run.pg_house.Repeating.{repeated_keeps}
+use Rattle.law_frame.proofs.pg_run.pg_house.Settling.{dirs_held}
+use Rattle.law_frame.proofs.pg_run.pg_house.Spreading.{spread_own}
+use Rattle.law_frame.specs.pg_run.theory_flood_pieces.UpTo.{AreFlagsUpTo}
+use Rattle.law_frame.proofs.pg_run.theory_flood_pieces.Choices.{chosen}
+use Rattle.law_frame.proofs.pg_run.theory_flood_pieces.Flags.{flags_joined}
+use Rattle.law_frame.proofs.pg_run.theory_flood_pieces.Growth.{OneOwn}
+use Rattle.law_frame.proofs.pg_run.theory_flood_pieces.UpTo.{flags_further, flags_themselves}
+use Rattle.law_frame.proofs.pg_run.theory_flood_pieces.Front.{Alone, ends, new_keys, with_lists}
 use Rattle.law_ticks.proofs.Keyed.{AllHeld, NameHas, Touches, Touches-refl, Touches-trans, held_further, in_split, left_touched, one_held_stays, one_stays, spread_touches, took_touches}
 
 -- ---- passing

@@ -1,22 +1,22 @@
 -- What the end of an event does to a server's store: what each piece keeps, the intentions that end
 -- and begin keep, and the house rules.
 use Rattle.std.proofs.Common.{true, refl}
-use Rattle.pg_run.specs.pg_intent.declared.intent.Intent.{Intent}
-use Rattle.pg_run.specs.pg_intent.declared.intent.Intent.TheVariants as intent
-use Rattle.pg_run.specs.pg_msg.declared.work.Work.{Work}
-use Rattle.pg_run.specs.pg_store.declared.store.Store.{Store}
-use Rattle.pg_run.specs.pg_store.Births.{with_birth, with_wishes}
-use Rattle.pg_run.specs.pg_store.Wishes.{without_wish}
-use Rattle.pg_run.specs.pg_pieces.Done.{Done, idle}
-use Rattle.pg_run.specs.pg_pieces.Making.{own_next}
-use Rattle.pg_run.specs.pg_cells.Settling.{settle}
-use Rattle.pg_run.proofs.pg_cells.Settled.{settle_keeps}
-use Rattle.pg_run.specs.pg_intentions.Beginning.{begin_end, end_others}
-use Rattle.pg_run.specs.pg_intentions.Confirms.{confirm_of}
-use Rattle.pg_run.specs.pg_intentions.Fills.{fill_of, files_to_fill, with_fill_birth}
-use Rattle.pg_run.specs.pg_intentions.Intending.{begin_intent}
-use Rattle.pg_run.specs.pg_intentions.Patches.{patch_of}
-use Rattle.pg_run.specs.pg_intentions.Seeks.{aim_seek, seek_target}
+use Rattle.law_frame.specs.pg_run.pg_intent.declared.intent.Intent.{Intent}
+use Rattle.law_frame.specs.pg_run.pg_intent.declared.intent.Intent.TheVariants as intent
+use Rattle.law_frame.specs.pg_run.pg_msg.declared.work.Work.{Work}
+use Rattle.law_frame.specs.pg_run.pg_store.declared.store.Store.{Store}
+use Rattle.law_frame.specs.pg_run.pg_store.Births.{with_birth, with_wishes}
+use Rattle.law_frame.specs.pg_run.pg_store.Wishes.{without_wish}
+use Rattle.law_frame.specs.pg_run.pg_pieces.Done.{Done, idle}
+use Rattle.law_frame.specs.pg_run.pg_pieces.Making.{own_next}
+use Rattle.law_frame.specs.pg_run.pg_cells.Settling.{settle}
+use Rattle.law_frame.proofs.pg_run.pg_cells.Settled.{settle_keeps}
+use Rattle.law_frame.specs.pg_run.pg_intentions.Beginning.{begin_end, end_others}
+use Rattle.law_frame.specs.pg_run.pg_intentions.Confirms.{confirm_of}
+use Rattle.law_frame.specs.pg_run.pg_intentions.Fills.{fill_of, files_to_fill, with_fill_birth}
+use Rattle.law_frame.specs.pg_run.pg_intentions.Intending.{begin_intent}
+use Rattle.law_frame.specs.pg_run.pg_intentions.Patches.{patch_of}
+use Rattle.law_frame.specs.pg_run.pg_intentions.Seeks.{aim_seek, seek_target}
 use Rattle.law_frame.proofs.Ended.{fill_born, intents_keep}
 use Rattle.law_ticks.proofs.Pieces.{OutlivesPieces}
 

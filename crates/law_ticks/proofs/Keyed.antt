@@ -2,29 +2,29 @@
 use Rattle.std.proofs.Common.{ℕ, ◌≡◌, ◌==◌, ◌&&◌, Bool, true, false, cond, not, List, [], ◌∷◌, ◌++◌, Option, None, Some, refl, sym, ap, subst, ◌∙◌, inl, inr, ◌⊎◌}
 use Rattle.std.proofs.lemmas.Bool.{eq-eqb, false≢true}
 use Rattle.std.proofs.lemmas.Option.{none-some}
-use Rattle.pg_run.specs.pg_base.declared.id.FileId.{FileId}
-use Rattle.pg_run.specs.pg_base.Id.{is_same_file}
-use Rattle.pg_run.proofs.pg_base.Orders.{is_same_file-true}
-use Rattle.pg_run.specs.pg_edges.declared.key.Key.{Key}
-use Rattle.pg_run.specs.pg_edges.declared.key.Key.TheVariants as key
-use Rattle.pg_run.specs.pg_register.declared.flag.Flag.{Flag}
-use Rattle.pg_run.specs.pg_register.declared.place.Place.{Place}
-use Rattle.pg_run.specs.pg_register.Flag.{flag_of}
-use Rattle.pg_run.specs.pg_entries.declared.entry.Entry.{Entry}
-use Rattle.pg_run.specs.pg_msg.declared.work.Touched.{Touched}
-use Rattle.pg_run.specs.pg_msg.declared.work.Work.{Work}
-use Rattle.pg_run.specs.pg_names.declared.attributes.Attributes.{Attributes}
-use Rattle.pg_run.specs.pg_names.Names.{NamesValue, cell_at, or_blank, own_at, own_or_blank, set_entry, set_own}
-use Rattle.pg_run.specs.pg_names.Same.{is_same_place}
-use Rattle.pg_run.proofs.pg_names.Lookups.{entry_other_child, entry_other_dir, entry_own, entry_same, own_cell, own_other, own_same}
-use Rattle.pg_run.specs.pg_house.Facts.{IsHeld, IsIn}
-use Rattle.pg_run.specs.pg_house.Work.{State, note_left, place_touched, touched}
-use Rattle.pg_run.specs.pg_house.Returning.{is_root}
-use Rattle.pg_run.specs.pg_msg.Work.{with_left, with_touched}
-use Rattle.pg_run.specs.pg_house.Passing.{cell_for, flags_touched, gets, given, is_other_flag, offered, own_touched, spread, took}
-use Rattle.pg_run.specs.theory_flood_pieces.UpTo.{AreFlagsUpTo, IsFlagKnownBy}
-use Rattle.pg_run.proofs.theory_flood_pieces.Choices.{chosen}
-use Rattle.pg_run.proofs.theory_flood_pieces.Growth.{OneOwn}
+use Rattle.law_frame.specs.pg_run.pg_base.declared.id.FileId.{FileId}
+use Rattle.law_frame.specs.pg_run.pg_base.Id.{is_same_file}
+use Rattle.law_frame.proofs.pg_run.pg_base.Orders.{is_same_file-true}
+use Rattle.law_frame.specs.pg_run.pg_edges.declared.key.Key.{Key}
+use Rattle.law_frame.specs.pg_run.pg_edges.declared.key.Key.TheVariants as key
+use Rattle.law_frame.specs.pg_run.pg_register.declared.flag.Flag.{Flag}
+use Rattle.law_frame.specs.pg_run.pg_register.declared.place.Place.{Place}
+use Rattle.law_frame.specs.pg_run.pg_register.Flag.{flag_of}
+use Rattle.law_frame.specs.pg_run.pg_entries.declared.entry.Entry.{Entry}
+use Rattle.law_frame.specs.pg_run.pg_msg.declared.work.Touched.{Touched}
+use Rattle.law_frame.specs.pg_run.pg_msg.declared.work.Work.{Work}
+use Rattle.law_frame.specs.pg_run.pg_names.declared.attributes.Attributes.{Attributes}
+use Rattle.law_frame.specs.pg_run.pg_names.Names.{NamesValue, cell_at, or_blank, own_at, own_or_blank, set_entry, set_own}
+use Rattle.law_frame.specs.pg_run.pg_names.Same.{is_same_place}
+use Rattle.law_frame.proofs.pg_run.pg_names.Lookups.{entry_other_child, entry_other_dir, entry_own, entry_same, own_cell, own_other, own_same}
+use Rattle.law_frame.specs.pg_run.pg_house.Facts.{IsHeld, IsIn}
+use Rattle.law_frame.specs.pg_run.pg_house.Work.{State, note_left, place_touched, touched}
+use Rattle.law_frame.specs.pg_run.pg_house.Returning.{is_root}
+use Rattle.law_frame.specs.pg_run.pg_msg.Work.{with_left, with_touched}
+use Rattle.law_frame.specs.pg_run.pg_house.Passing.{cell_for, flags_touched, gets, given, is_other_flag, offered, own_touched, spread, took}
+use Rattle.law_frame.specs.pg_run.theory_flood_pieces.UpTo.{AreFlagsUpTo, IsFlagKnownBy}
+use Rattle.law_frame.proofs.pg_run.theory_flood_pieces.Choices.{chosen}
+use Rattle.law_frame.proofs.pg_run.theory_flood_pieces.Growth.{OneOwn}
 
 -- ---- what is known of a key
 

@@ -3,40 +3,40 @@ use Rattle.std.proofs.Common.{ℕ, ◌≡◌, Bool, true, false, List, [], ◌�
 use Rattle.std.specs.BTreeMap.{is_at}
 use Rattle.std.specs.Map.{lookup}
 use Rattle.std.proofs.lemmas.Option.{none-some}
-use Rattle.pg_run.specs.pg_base.declared.id.FileId.{FileId}
-use Rattle.pg_run.specs.pg_base.Id.{file_cmp}
-use Rattle.pg_run.specs.pg_base.Version.{VersionValue}
-use Rattle.pg_run.specs.pg_content.Content.{ContentValue}
-use Rattle.pg_run.specs.pg_edges.declared.key.Key.{Key}
-use Rattle.pg_run.specs.pg_edges.declared.key.Key.TheVariants as key
-use Rattle.pg_run.specs.pg_edges.declared.edge.Edge.{Edge}
-use Rattle.pg_run.specs.pg_edges.Edges.{tag_at}
-use Rattle.pg_run.specs.pg_edges.Laws.Change.{Touch}
-use Rattle.pg_run.proofs.pg_edges.Tags.{keeps_or_brings}
-use Rattle.pg_run.specs.pg_entries.declared.cell.Cell.{Cell}
-use Rattle.pg_run.specs.pg_entries.declared.cell.Cell.TheVariants as cell
-use Rattle.pg_run.specs.pg_entries.declared.entry.Entry.{Entry}
-use Rattle.pg_run.specs.pg_house.Facts.{IsIn}
-use Rattle.pg_run.specs.pg_msg.declared.work.Touched.{Touched}
-use Rattle.pg_run.specs.pg_names.declared.attributes.Attributes.{Attributes}
-use Rattle.pg_run.specs.pg_names.Names.{InodeValue, NamesValue, cell_at as entry_at, is_entry_new, is_flag_new, join_entry, join_flag, join_place, known, or_blank, own_at, own_of, own_or_blank, raise, remove_server, with_place}
-use Rattle.pg_run.proofs.pg_names.Lookups.{flag_same, joined_same, known_absent, own_with_flag}
-use Rattle.pg_run.specs.pg_register.declared.flag.Flag.{Flag}
-use Rattle.pg_run.specs.pg_register.declared.place.Place.{Place}
-use Rattle.pg_run.specs.pg_register.Flag.{flag_of}
-use Rattle.pg_run.specs.pg_register.Flag as flags
-use Rattle.pg_run.specs.pg_replica.declared.replica.Replica.{Replica}
-use Rattle.pg_run.specs.pg_replica.Replica.{cell_at as head_at, with_touch}
-use Rattle.pg_run.specs.pg_replica.Replicas.{edge_count, or_nothing, replicas_touched}
-use Rattle.pg_run.specs.pg_store.declared.store.Store.{Store}
-use Rattle.pg_run.specs.pg_store.Cells.{cell_at, entry_cell, flag_cell, is_sure, version_cell}
-use Rattle.pg_run.specs.pg_store.Store.{content_of, is_newer_entry, is_newer_flag, is_newer_place, put_entry, put_flag, put_place, replica_at, take_entry, take_flag, take_place, touch, with_drawn, with_names}
-use Rattle.pg_run.specs.pg_cells.Settling.{touch_all}
-use Rattle.pg_run.specs.theory_flood_pieces.Names.{AreNamesUpTo, IsEntryKnownBy}
-use Rattle.pg_run.proofs.theory_flood_pieces.Choices.{chosen, decided}
-use Rattle.pg_run.proofs.theory_flood_pieces.Flags.{flag_there}
-use Rattle.pg_run.proofs.theory_flood_pieces.Growth.{entry_grows, flag_grows, place_grows}
-use Rattle.pg_run.proofs.theory_flood_pieces.Stores.{Changes, by_file}
+use Rattle.law_frame.specs.pg_run.pg_base.declared.id.FileId.{FileId}
+use Rattle.law_frame.specs.pg_run.pg_base.Id.{file_cmp}
+use Rattle.law_frame.specs.pg_run.pg_base.Version.{VersionValue}
+use Rattle.law_frame.specs.pg_run.pg_content.Content.{ContentValue}
+use Rattle.law_frame.specs.pg_run.pg_edges.declared.key.Key.{Key}
+use Rattle.law_frame.specs.pg_run.pg_edges.declared.key.Key.TheVariants as key
+use Rattle.law_frame.specs.pg_run.pg_edges.declared.edge.Edge.{Edge}
+use Rattle.law_frame.specs.pg_run.pg_edges.Edges.{tag_at}
+use Rattle.law_frame.specs.pg_run.pg_edges.Laws.Change.{Touch}
+use Rattle.law_frame.proofs.pg_run.pg_edges.Tags.{keeps_or_brings}
+use Rattle.law_frame.specs.pg_run.pg_entries.declared.cell.Cell.{Cell}
+use Rattle.law_frame.specs.pg_run.pg_entries.declared.cell.Cell.TheVariants as cell
+use Rattle.law_frame.specs.pg_run.pg_entries.declared.entry.Entry.{Entry}
+use Rattle.law_frame.specs.pg_run.pg_house.Facts.{IsIn}
+use Rattle.law_frame.specs.pg_run.pg_msg.declared.work.Touched.{Touched}
+use Rattle.law_frame.specs.pg_run.pg_names.declared.attributes.Attributes.{Attributes}
+use Rattle.law_frame.specs.pg_run.pg_names.Names.{InodeValue, NamesValue, cell_at as entry_at, is_entry_new, is_flag_new, join_entry, join_flag, join_place, known, or_blank, own_at, own_of, own_or_blank, raise, remove_server, with_place}
+use Rattle.law_frame.proofs.pg_run.pg_names.Lookups.{flag_same, joined_same, known_absent, own_with_flag}
+use Rattle.law_frame.specs.pg_run.pg_register.declared.flag.Flag.{Flag}
+use Rattle.law_frame.specs.pg_run.pg_register.declared.place.Place.{Place}
+use Rattle.law_frame.specs.pg_run.pg_register.Flag.{flag_of}
+use Rattle.law_frame.specs.pg_run.pg_register.Flag as flags
+use Rattle.law_frame.specs.pg_run.pg_replica.declared.replica.Replica.{Replica}
+use Rattle.law_frame.specs.pg_run.pg_replica.Replica.{cell_at as head_at, with_touch}
+use Rattle.law_frame.specs.pg_run.pg_replica.Replicas.{edge_count, or_nothing, replicas_touched}
+use Rattle.law_frame.specs.pg_run.pg_store.declared.store.Store.{Store}
+use Rattle.law_frame.specs.pg_run.pg_store.Cells.{cell_at, entry_cell, flag_cell, is_sure, version_cell}
+use Rattle.law_frame.specs.pg_run.pg_store.Store.{content_of, is_newer_entry, is_newer_flag, is_newer_place, put_entry, put_flag, put_place, replica_at, take_entry, take_flag, take_place, touch, with_drawn, with_names}
+use Rattle.law_frame.specs.pg_run.pg_cells.Settling.{touch_all}
+use Rattle.law_frame.specs.pg_run.theory_flood_pieces.Names.{AreNamesUpTo, IsEntryKnownBy}
+use Rattle.law_frame.proofs.pg_run.theory_flood_pieces.Choices.{chosen, decided}
+use Rattle.law_frame.proofs.pg_run.theory_flood_pieces.Flags.{flag_there}
+use Rattle.law_frame.proofs.pg_run.theory_flood_pieces.Growth.{entry_grows, flag_grows, place_grows}
+use Rattle.law_frame.proofs.pg_run.theory_flood_pieces.Stores.{Changes, by_file}
 use Rattle.law_ticks.proofs.Keyed.{NameHas, known_up}
 
 -- ---- cells

@@ -4,40 +4,40 @@ use Rattle.std.specs.BTreeMap.{insert_entry, is_at}
 use Rattle.std.specs.Map.{keys_of, lookup}
 use Rattle.std.specs.Option.{option_map}
 use Rattle.std.proofs.lemmas.Option.{none-some}
-use Rattle.pg_run.specs.pg_base.declared.id.FileId.{FileId}
-use Rattle.pg_run.specs.pg_base.Id.{file_cmp, is_same_file}
-use Rattle.pg_run.specs.pg_base.Version.{VersionValue}
-use Rattle.pg_run.proofs.pg_base.Orders.{is_same_file-refl}
-use Rattle.pg_run.specs.pg_content.Content.{Among}
-use Rattle.pg_run.specs.pg_delta.declared.delta.KeptDelta.{KeptDelta}
-use Rattle.pg_run.specs.pg_edges.declared.key.Key.{Key}
-use Rattle.pg_run.specs.pg_edges.declared.key.Key.TheVariants as key
-use Rattle.pg_run.specs.pg_edges.declared.edge.Edge.{Edge}
-use Rattle.pg_run.specs.pg_edges.Edges.{edge_to, keys_if_born, linked, makes_edge, new_edge, put_edge, tag_at, tag_of}
-use Rattle.pg_run.specs.pg_edges.Key.{is_same_key, key_cmp}
-use Rattle.pg_run.specs.pg_edges.Keys.{tag_in, touch_each}
-use Rattle.pg_run.specs.pg_edges.Laws.Change.{Ack, Unlink}
-use Rattle.pg_run.proofs.pg_edges.Lookups.{edge_to-put_edge, tag_in-insert}
-use Rattle.pg_run.proofs.pg_edges.Orders.{is_same_key-true}
-use Rattle.pg_run.proofs.pg_edges.Tags.{keeps_or_brings}
-use Rattle.pg_run.specs.pg_entries.declared.cell.Cell.TheVariants as cell
-use Rattle.pg_run.specs.pg_entries.declared.entry.Entry.{Entry}
-use Rattle.pg_run.specs.pg_names.Names.{InodeValue, entry_in, known, or_blank, own_of}
-use Rattle.pg_run.specs.pg_register.declared.flag.Flag.{Flag}
-use Rattle.pg_run.specs.pg_register.Flag.{flag_of}
-use Rattle.pg_run.specs.pg_replica.declared.link.Link.{Link}
-use Rattle.pg_run.specs.pg_replica.declared.replica.Replica.{Replica}
-use Rattle.pg_run.specs.pg_replica.Laws.{IsKeyOf}
-use Rattle.pg_run.specs.pg_replica.Replica.{has_edge, keys as head_keys, with_ack, with_kept, with_link, with_unlink}
-use Rattle.pg_run.specs.pg_replica.Replicas.{ByFile, put_replica, replicas_acked, replicas_keeping, replicas_linked, replicas_unlinked}
-use Rattle.pg_run.proofs.pg_replica.Heads.{head_cell}
-use Rattle.pg_run.specs.pg_store.declared.store.Store.{Store}
-use Rattle.pg_run.specs.pg_store.Cells.{version_cell}
-use Rattle.pg_run.specs.pg_store.Links.{entry_keys, flag_keys, is_linked, is_new_link, keys, link, name_keys, put_link, unlink}
-use Rattle.pg_run.specs.pg_store.Store.{acknowledge, content_of, keep_delta, replica_at, with_drawn}
-use Rattle.pg_run.proofs.theory_flood_pieces.Choices.{chosen}
-use Rattle.pg_run.proofs.theory_flood_pieces.Stores.{Changes}
-use Rattle.pg_run.proofs.Lists.{among_parts}
+use Rattle.law_frame.specs.pg_run.pg_base.declared.id.FileId.{FileId}
+use Rattle.law_frame.specs.pg_run.pg_base.Id.{file_cmp, is_same_file}
+use Rattle.law_frame.specs.pg_run.pg_base.Version.{VersionValue}
+use Rattle.law_frame.proofs.pg_run.pg_base.Orders.{is_same_file-refl}
+use Rattle.law_frame.specs.pg_run.pg_content.Content.{Among}
+use Rattle.law_frame.specs.pg_run.pg_delta.declared.delta.KeptDelta.{KeptDelta}
+use Rattle.law_frame.specs.pg_run.pg_edges.declared.key.Key.{Key}
+use Rattle.law_frame.specs.pg_run.pg_edges.declared.key.Key.TheVariants as key
+use Rattle.law_frame.specs.pg_run.pg_edges.declared.edge.Edge.{Edge}
+use Rattle.law_frame.specs.pg_run.pg_edges.Edges.{edge_to, keys_if_born, linked, makes_edge, new_edge, put_edge, tag_at, tag_of}
+use Rattle.law_frame.specs.pg_run.pg_edges.Key.{is_same_key, key_cmp}
+use Rattle.law_frame.specs.pg_run.pg_edges.Keys.{tag_in, touch_each}
+use Rattle.law_frame.specs.pg_run.pg_edges.Laws.Change.{Ack, Unlink}
+use Rattle.law_frame.proofs.pg_run.pg_edges.Lookups.{edge_to-put_edge, tag_in-insert}
+use Rattle.law_frame.proofs.pg_run.pg_edges.Orders.{is_same_key-true}
+use Rattle.law_frame.proofs.pg_run.pg_edges.Tags.{keeps_or_brings}
+use Rattle.law_frame.specs.pg_run.pg_entries.declared.cell.Cell.TheVariants as cell
+use Rattle.law_frame.specs.pg_run.pg_entries.declared.entry.Entry.{Entry}
+use Rattle.law_frame.specs.pg_run.pg_names.Names.{InodeValue, entry_in, known, or_blank, own_of}
+use Rattle.law_frame.specs.pg_run.pg_register.declared.flag.Flag.{Flag}
+use Rattle.law_frame.specs.pg_run.pg_register.Flag.{flag_of}
+use Rattle.law_frame.specs.pg_run.pg_replica.declared.link.Link.{Link}
+use Rattle.law_frame.specs.pg_run.pg_replica.declared.replica.Replica.{Replica}
+use Rattle.law_frame.specs.pg_run.pg_replica.Laws.{IsKeyOf}
+use Rattle.law_frame.specs.pg_run.pg_replica.Replica.{has_edge, keys as head_keys, with_ack, with_kept, with_link, with_unlink}
+use Rattle.law_frame.specs.pg_run.pg_replica.Replicas.{ByFile, put_replica, replicas_acked, replicas_keeping, replicas_linked, replicas_unlinked}
+use Rattle.law_frame.proofs.pg_run.pg_replica.Heads.{head_cell}
+use Rattle.law_frame.specs.pg_run.pg_store.declared.store.Store.{Store}
+use Rattle.law_frame.specs.pg_run.pg_store.Cells.{version_cell}
+use Rattle.law_frame.specs.pg_run.pg_store.Links.{entry_keys, flag_keys, is_linked, is_new_link, keys, link, name_keys, put_link, unlink}
+use Rattle.law_frame.specs.pg_run.pg_store.Store.{acknowledge, content_of, keep_delta, replica_at, with_drawn}
+use Rattle.law_frame.proofs.pg_run.theory_flood_pieces.Choices.{chosen}
+use Rattle.law_frame.proofs.pg_run.theory_flood_pieces.Stores.{Changes}
+use Rattle.law_frame.proofs.pg_run.Lists.{among_parts}
 use Rattle.law_ticks.proofs.Keyed.{NameHas, IsMember, member_found}
 use Rattle.law_ticks.proofs.KeysCells.{AllHaveCells, HasCell, beside_have, cell_stays, name_cell, one_changed, same_content}
 

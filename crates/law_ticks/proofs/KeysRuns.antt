@@ -1,27 +1,27 @@
 -- In every world that a run reaches each key on an edge has a cell.
 use Rattle.std.proofs.Common.{ℕ, ◌≡◌, Bool, true, false, cond, Option, None, Some, refl, sym, subst, ◌∙◌}
 use Rattle.std.proofs.lemmas.Option.{none-some, same_Some}
-use Rattle.pg_run.specs.pg_base.declared.id.FileId.{FileId}
-use Rattle.pg_run.specs.pg_base.Id.{is_same_file}
-use Rattle.pg_run.specs.pg_register.Place.{root}
-use Rattle.pg_run.proofs.theory_flood.Worlds.{clean_tags}
-use Rattle.pg_run.specs.pg_msg.declared.message.Packet.{Packet}
-use Rattle.pg_run.specs.pg_msg.Work.{new_work}
-use Rattle.pg_run.specs.pg_replica.declared.replica.Replica.{Replica}
-use Rattle.pg_run.specs.pg_replica.Root.{first_root}
-use Rattle.pg_run.specs.pg_store.declared.store.Store.{Store}
-use Rattle.pg_run.specs.pg_store.Store.{new_store, replica_at, with_names}
-use Rattle.pg_run.specs.pg_store.Views.{with_removed}
-use Rattle.pg_run.specs.pg_server.declared.input.Input.{Input}
-use Rattle.pg_run.specs.pg_server.declared.input.Input.TheVariants as input
-use Rattle.pg_run.specs.pg_server.Local.{effect, without_sources, without_volatile}
-use Rattle.pg_run.proofs.theory_flood_pieces.Graphs.{new_clean}
-use Rattle.pg_run.specs.Run.{World, run}
-use Rattle.pg_run.proofs.Event.{Comes, IsKeptByParts, store_kept}
-use Rattle.pg_run.proofs.Frame.{OutlivesEvents, each_after, holds_in_runs, no_server_comes}
+use Rattle.law_frame.specs.pg_run.pg_base.declared.id.FileId.{FileId}
+use Rattle.law_frame.specs.pg_run.pg_base.Id.{is_same_file}
+use Rattle.law_frame.specs.pg_run.pg_register.Place.{root}
+use Rattle.law_frame.proofs.pg_run.theory_flood.Worlds.{clean_tags}
+use Rattle.law_frame.specs.pg_run.pg_msg.declared.message.Packet.{Packet}
+use Rattle.law_frame.specs.pg_run.pg_msg.Work.{new_work}
+use Rattle.law_frame.specs.pg_run.pg_replica.declared.replica.Replica.{Replica}
+use Rattle.law_frame.specs.pg_run.pg_replica.Root.{first_root}
+use Rattle.law_frame.specs.pg_run.pg_store.declared.store.Store.{Store}
+use Rattle.law_frame.specs.pg_run.pg_store.Store.{new_store, replica_at, with_names}
+use Rattle.law_frame.specs.pg_run.pg_store.Views.{with_removed}
+use Rattle.law_frame.specs.pg_run.pg_server.declared.input.Input.{Input}
+use Rattle.law_frame.specs.pg_run.pg_server.declared.input.Input.TheVariants as input
+use Rattle.law_frame.specs.pg_run.pg_server.Local.{effect, without_sources, without_volatile}
+use Rattle.law_frame.proofs.pg_run.theory_flood_pieces.Graphs.{new_clean}
+use Rattle.law_frame.specs.pg_run.Run.{World, run}
+use Rattle.law_frame.proofs.pg_run.Event.{Comes, IsKeptByParts, store_kept}
+use Rattle.law_frame.proofs.pg_run.Frame.{OutlivesEvents, each_after, holds_in_runs, no_server_comes}
 use Rattle.law_ticks.specs.Laws.{KeysHaveCells}
-use Rattle.pg_run.specs.pg_names.Names.{NamesValue, remove_server}
-use Rattle.pg_run.specs.pg_edges.declared.key.Key.{Key}
+use Rattle.law_frame.specs.pg_run.pg_names.Names.{NamesValue, remove_server}
+use Rattle.law_frame.specs.pg_run.pg_edges.declared.key.Key.{Key}
 use Rattle.law_ticks.proofs.Keyed.{NameHas}
 use Rattle.law_ticks.proofs.KeysCells.{AllHaveCells, HaveCells, HaveIn, beside_have, entry_have, flag_have, named_have, place_have, removed_up}
 use Rattle.law_ticks.proofs.KeysLinks.{acknowledged_have, kept_have, link_have, unlink_have}

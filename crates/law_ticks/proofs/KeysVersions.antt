@@ -3,49 +3,49 @@ use Rattle.std.proofs.Common.{ℕ, ◌≡◌, Bool, true, false, cond, not, List
 use Rattle.std.specs.List.{filter}
 use Rattle.std.proofs.lemmas.Bool.{false≢true, not-true}
 use Rattle.std.proofs.lemmas.Option.{none-some}
-use Rattle.pg_run.specs.pg_base.declared.id.FileId.{FileId}
-use Rattle.pg_run.specs.pg_base.declared.policy.Policy.{Policy}
-use Rattle.pg_run.specs.pg_base.declared.stamp.Stamp.{Stamp}
-use Rattle.pg_run.specs.pg_base.Id.{file_cmp, is_same_file}
-use Rattle.pg_run.specs.pg_base.Version.{VersionValue}
-use Rattle.pg_run.proofs.pg_base.Maps.{lookup-insert_entry}
-use Rattle.pg_run.proofs.pg_base.Orders.{file_total}
-use Rattle.pg_run.specs.pg_patch.Ranges.{RangesValue}
-use Rattle.pg_run.specs.pg_content.Content.{Among, ContentValue, covers_version, next_version, put_version as put_head}
-use Rattle.pg_run.proofs.pg_content.Inserting.{inserted_among}
-use Rattle.pg_run.proofs.pg_content.Members.{filter_among, map_among}
-use Rattle.pg_run.specs.pg_edges.declared.key.Key.{Key}
-use Rattle.pg_run.specs.pg_edges.declared.key.Key.TheVariants as key
-use Rattle.pg_run.specs.pg_edges.Edges.{tag_at, touched}
-use Rattle.pg_run.specs.pg_edges.Laws.Change.{Touch}
-use Rattle.pg_run.proofs.pg_edges.Tags.{keeps_or_brings}
-use Rattle.pg_run.specs.pg_entries.declared.cell.Cell.TheVariants as cell
-use Rattle.pg_run.specs.pg_house.House.{house}
-use Rattle.pg_run.specs.pg_house.Work.{state_of}
-use Rattle.pg_run.specs.pg_intent.declared.intent.Intent.{Intent}
-use Rattle.pg_run.specs.pg_intent.declared.intent.Intent.TheVariants as intent
-use Rattle.pg_run.specs.pg_intent.declared.key.IntentKey.{IntentKey}
-use Rattle.pg_run.specs.pg_intent.Intents.{ended, intent_at}
-use Rattle.pg_run.specs.pg_msg.declared.work.Work.{Work}
-use Rattle.pg_run.specs.pg_names.declared.attributes.Attributes.{Attributes}
-use Rattle.pg_run.specs.pg_names.Names.{InodeValue, NamesValue, begin as begin_names, cell_at as entry_at, entry_in, fill, filled, known, let_go as let_go_names, new_held, or_blank, own_of, own_or_blank, raise}
-use Rattle.pg_run.proofs.pg_names.Gone.{gone_other}
-use Rattle.pg_run.proofs.pg_names.Lookups.{cells_kept, own_kept}
-use Rattle.pg_run.specs.pg_register.Flag.{flag_of}
-use Rattle.pg_run.specs.pg_replica.declared.replica.Replica.{Replica}
-use Rattle.pg_run.specs.pg_replica.Laws.{IsKeyOf}
-use Rattle.pg_run.specs.pg_replica.Replica.{cell_at as head_at, covered_heads, covers, key_of, keys, new_replica, own_actor, with_head, with_write, without_keys}
-use Rattle.pg_run.specs.pg_replica.Replicas.{edge_count, or_nothing, replicas_taking, replicas_writing, takes_version}
-use Rattle.pg_run.proofs.pg_replica.Going.{replica_behind}
-use Rattle.pg_run.proofs.pg_replica.Growth.{cell_head}
-use Rattle.pg_run.proofs.pg_replica.Heads.{head_cell, left_tag}
-use Rattle.pg_run.specs.pg_store.declared.store.Store.{Store}
-use Rattle.pg_run.specs.pg_store.Beginning.{begin, let_go, patches_of, put_new, take_patch, take_patches, take_told, take_told_in, with_intents}
-use Rattle.pg_run.specs.pg_store.Cells.{version_cell}
-use Rattle.pg_run.specs.pg_store.Store.{content_of, end_covered, is_new_version, put_version, replica_at, take_version, with_drawn, with_names, write}
-use Rattle.pg_run.specs.pg_cells.Settling.{rules}
-use Rattle.pg_run.proofs.theory_flood_pieces.Choices.{decided}
-use Rattle.pg_run.proofs.theory_flood_pieces.Stores.{Changes, by_file, replica_elsewhere, replica_here}
+use Rattle.law_frame.specs.pg_run.pg_base.declared.id.FileId.{FileId}
+use Rattle.law_frame.specs.pg_run.pg_base.declared.policy.Policy.{Policy}
+use Rattle.law_frame.specs.pg_run.pg_base.declared.stamp.Stamp.{Stamp}
+use Rattle.law_frame.specs.pg_run.pg_base.Id.{file_cmp, is_same_file}
+use Rattle.law_frame.specs.pg_run.pg_base.Version.{VersionValue}
+use Rattle.law_frame.proofs.pg_run.pg_base.Maps.{lookup-insert_entry}
+use Rattle.law_frame.proofs.pg_run.pg_base.Orders.{file_total}
+use Rattle.law_frame.specs.pg_run.pg_patch.Ranges.{RangesValue}
+use Rattle.law_frame.specs.pg_run.pg_content.Content.{Among, ContentValue, covers_version, next_version, put_version as put_head}
+use Rattle.law_frame.proofs.pg_run.pg_content.Inserting.{inserted_among}
+use Rattle.law_frame.proofs.pg_run.pg_content.Members.{filter_among, map_among}
+use Rattle.law_frame.specs.pg_run.pg_edges.declared.key.Key.{Key}
+use Rattle.law_frame.specs.pg_run.pg_edges.declared.key.Key.TheVariants as key
+use Rattle.law_frame.specs.pg_run.pg_edges.Edges.{tag_at, touched}
+use Rattle.law_frame.specs.pg_run.pg_edges.Laws.Change.{Touch}
+use Rattle.law_frame.proofs.pg_run.pg_edges.Tags.{keeps_or_brings}
+use Rattle.law_frame.specs.pg_run.pg_entries.declared.cell.Cell.TheVariants as cell
+use Rattle.law_frame.specs.pg_run.pg_house.House.{house}
+use Rattle.law_frame.specs.pg_run.pg_house.Work.{state_of}
+use Rattle.law_frame.specs.pg_run.pg_intent.declared.intent.Intent.{Intent}
+use Rattle.law_frame.specs.pg_run.pg_intent.declared.intent.Intent.TheVariants as intent
+use Rattle.law_frame.specs.pg_run.pg_intent.declared.key.IntentKey.{IntentKey}
+use Rattle.law_frame.specs.pg_run.pg_intent.Intents.{ended, intent_at}
+use Rattle.law_frame.specs.pg_run.pg_msg.declared.work.Work.{Work}
+use Rattle.law_frame.specs.pg_run.pg_names.declared.attributes.Attributes.{Attributes}
+use Rattle.law_frame.specs.pg_run.pg_names.Names.{InodeValue, NamesValue, begin as begin_names, cell_at as entry_at, entry_in, fill, filled, known, let_go as let_go_names, new_held, or_blank, own_of, own_or_blank, raise}
+use Rattle.law_frame.proofs.pg_run.pg_names.Gone.{gone_other}
+use Rattle.law_frame.proofs.pg_run.pg_names.Lookups.{cells_kept, own_kept}
+use Rattle.law_frame.specs.pg_run.pg_register.Flag.{flag_of}
+use Rattle.law_frame.specs.pg_run.pg_replica.declared.replica.Replica.{Replica}
+use Rattle.law_frame.specs.pg_run.pg_replica.Laws.{IsKeyOf}
+use Rattle.law_frame.specs.pg_run.pg_replica.Replica.{cell_at as head_at, covered_heads, covers, key_of, keys, new_replica, own_actor, with_head, with_write, without_keys}
+use Rattle.law_frame.specs.pg_run.pg_replica.Replicas.{edge_count, or_nothing, replicas_taking, replicas_writing, takes_version}
+use Rattle.law_frame.proofs.pg_run.pg_replica.Going.{replica_behind}
+use Rattle.law_frame.proofs.pg_run.pg_replica.Growth.{cell_head}
+use Rattle.law_frame.proofs.pg_run.pg_replica.Heads.{head_cell, left_tag}
+use Rattle.law_frame.specs.pg_run.pg_store.declared.store.Store.{Store}
+use Rattle.law_frame.specs.pg_run.pg_store.Beginning.{begin, let_go, patches_of, put_new, take_patch, take_patches, take_told, take_told_in, with_intents}
+use Rattle.law_frame.specs.pg_run.pg_store.Cells.{version_cell}
+use Rattle.law_frame.specs.pg_run.pg_store.Store.{content_of, end_covered, is_new_version, put_version, replica_at, take_version, with_drawn, with_names, write}
+use Rattle.law_frame.specs.pg_run.pg_cells.Settling.{rules}
+use Rattle.law_frame.proofs.pg_run.theory_flood_pieces.Choices.{decided}
+use Rattle.law_frame.proofs.pg_run.theory_flood_pieces.Stores.{Changes, by_file, replica_elsewhere, replica_here}
 use Rattle.law_ticks.proofs.HouseKeys.{new_has, old_has}
 use Rattle.law_ticks.proofs.Keyed.{NameHas}
 use Rattle.law_ticks.proofs.KeysCells.{AllHaveCells, HasCell, HaveCells, HaveIn, beside_have, cell_stays, entry_have, entry_named, flag_named, have_in, name_cell, named_have, raised_up, touches_have, version_named}

@@ -9,4 +9,3 @@ pub mod Intended
 pub mod KeysRuns
 pub mod Ticks
 pub mod FirstCause
-pub use Rattle.pg_run.proofs as pg_run

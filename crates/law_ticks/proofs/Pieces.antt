@@ -1,38 +1,38 @@
 -- What an event does to a server's store, piece by piece: what each piece keeps, every message
 -- keeps.
 use Rattle.std.proofs.Common.{ℕ, ◌≡◌, Bool, true, false, refl}
-use Rattle.pg_run.specs.pg_base.declared.id.FileId.{FileId}
-use Rattle.pg_run.specs.pg_base.declared.policy.Policy.{Policy}
-use Rattle.pg_run.specs.pg_base.declared.stamp.Stamp.{Stamp}
-use Rattle.pg_run.specs.pg_base.Version.{VersionValue}
-use Rattle.pg_run.specs.pg_patch.Ranges.{RangesValue}
-use Rattle.pg_run.specs.pg_entries.declared.entry.Entry.{Entry}
-use Rattle.pg_run.specs.pg_delta.declared.delta.KeptDelta.{KeptDelta}
-use Rattle.pg_run.specs.pg_edges.declared.key.Key.{Key}
-use Rattle.pg_run.specs.pg_intent.declared.key.IntentKey.TheVariants as intent_key
-use Rattle.pg_run.specs.pg_msg.declared.message.Message.{Message}
-use Rattle.pg_run.specs.pg_msg.declared.work.Work.{Work}
-use Rattle.pg_run.specs.pg_register.declared.flag.Flag.{Flag}
-use Rattle.pg_run.specs.pg_register.declared.place.Place.{Place}
-use Rattle.pg_run.specs.pg_replica.declared.link.Link.{Link}
-use Rattle.pg_run.specs.pg_names.declared.attributes.Attributes.{Attributes}
-use Rattle.pg_run.specs.pg_names.Names as names
-use Rattle.pg_run.specs.pg_store.declared.store.Store.{Store}
-use Rattle.pg_run.specs.pg_store.Beginning.{begin, let_go, with_intents}
-use Rattle.pg_run.specs.pg_store.Births.{birth_of, with_wishes}
-use Rattle.pg_run.specs.pg_store.Links.{link, unlink}
-use Rattle.pg_run.specs.pg_store.Store.{acknowledge, keep_delta, take_entry, take_flag, take_place, take_version, with_names, write}
-use Rattle.pg_run.specs.pg_store.Views.{with_removed}
-use Rattle.pg_run.specs.pg_pieces.Done.{Done, idle, link_of}
-use Rattle.pg_run.specs.pg_pieces.Making.{own_next}
-use Rattle.pg_run.specs.pg_cells.Settling.{ruled}
-use Rattle.pg_run.specs.pg_intentions.Intending.{begin_intent}
-use Rattle.pg_run.specs.pg_graph.Leaving.{bye_to, without_leave}
-use Rattle.pg_run.specs.pg_server.Local.{receive}
-use Rattle.pg_run.specs.pg_server.pg_transfer.Asking.{with_notes}
-use Rattle.pg_run.specs.pg_intent.Intents.{aimed, ended}
-use Rattle.pg_run.specs.pg_repair.Granting.{granted_own}
-use Rattle.pg_run.specs.pg_store.Wishes.{aim_wish}
+use Rattle.law_frame.specs.pg_run.pg_base.declared.id.FileId.{FileId}
+use Rattle.law_frame.specs.pg_run.pg_base.declared.policy.Policy.{Policy}
+use Rattle.law_frame.specs.pg_run.pg_base.declared.stamp.Stamp.{Stamp}
+use Rattle.law_frame.specs.pg_run.pg_base.Version.{VersionValue}
+use Rattle.law_frame.specs.pg_run.pg_patch.Ranges.{RangesValue}
+use Rattle.law_frame.specs.pg_run.pg_entries.declared.entry.Entry.{Entry}
+use Rattle.law_frame.specs.pg_run.pg_delta.declared.delta.KeptDelta.{KeptDelta}
+use Rattle.law_frame.specs.pg_run.pg_edges.declared.key.Key.{Key}
+use Rattle.law_frame.specs.pg_run.pg_intent.declared.key.IntentKey.TheVariants as intent_key
+use Rattle.law_frame.specs.pg_run.pg_msg.declared.message.Message.{Message}
+use Rattle.law_frame.specs.pg_run.pg_msg.declared.work.Work.{Work}
+use Rattle.law_frame.specs.pg_run.pg_register.declared.flag.Flag.{Flag}
+use Rattle.law_frame.specs.pg_run.pg_register.declared.place.Place.{Place}
+use Rattle.law_frame.specs.pg_run.pg_replica.declared.link.Link.{Link}
+use Rattle.law_frame.specs.pg_run.pg_names.declared.attributes.Attributes.{Attributes}
+use Rattle.law_frame.specs.pg_run.pg_names.Names as names
+use Rattle.law_frame.specs.pg_run.pg_store.declared.store.Store.{Store}
+use Rattle.law_frame.specs.pg_run.pg_store.Beginning.{begin, let_go, with_intents}
+use Rattle.law_frame.specs.pg_run.pg_store.Births.{birth_of, with_wishes}
+use Rattle.law_frame.specs.pg_run.pg_store.Links.{link, unlink}
+use Rattle.law_frame.specs.pg_run.pg_store.Store.{acknowledge, keep_delta, take_entry, take_flag, take_place, take_version, with_names, write}
+use Rattle.law_frame.specs.pg_run.pg_store.Views.{with_removed}
+use Rattle.law_frame.specs.pg_run.pg_pieces.Done.{Done, idle, link_of}
+use Rattle.law_frame.specs.pg_run.pg_pieces.Making.{own_next}
+use Rattle.law_frame.specs.pg_run.pg_cells.Settling.{ruled}
+use Rattle.law_frame.specs.pg_run.pg_intentions.Intending.{begin_intent}
+use Rattle.law_frame.specs.pg_run.pg_graph.Leaving.{bye_to, without_leave}
+use Rattle.law_frame.specs.pg_run.pg_server.Local.{receive}
+use Rattle.law_frame.specs.pg_run.pg_server.pg_transfer.Asking.{with_notes}
+use Rattle.law_frame.specs.pg_run.pg_intent.Intents.{aimed, ended}
+use Rattle.law_frame.specs.pg_run.pg_repair.Granting.{granted_own}
+use Rattle.law_frame.specs.pg_run.pg_store.Wishes.{aim_wish}
 use Rattle.law_frame.proofs.Keeps.{Keeps}
 use Rattle.law_frame.proofs.Received.{receive_keeps}
 

@@ -1,10 +1,10 @@
 -- Ticks send what is owed, and restarts lose wishes: each server is as the lemmas on one event ask.
 use Rattle.std.proofs.Common.{ℕ}
-use Rattle.pg_run.specs.Ticks.{RestartsLoseWishes, TicksSendWhatIsOwed}
-use Rattle.pg_run.proofs.Ticks as ticks
-use Rattle.pg_run.proofs.Ticks.{AreTidy}
-use Rattle.pg_run.specs.Laws.{store_after}
-use Rattle.pg_run.proofs.theory_flood_pieces.Sending.{own_key}
+use Rattle.law_frame.specs.pg_run.Ticks.{RestartsLoseWishes, TicksSendWhatIsOwed}
+use Rattle.law_frame.proofs.pg_run.Ticks as ticks
+use Rattle.law_frame.proofs.pg_run.Ticks.{AreTidy}
+use Rattle.law_frame.specs.pg_run.Laws.{store_after}
+use Rattle.law_frame.proofs.pg_run.theory_flood_pieces.Sending.{own_key}
 use Rattle.law_ticks.specs.Given.{TidinessIsGiven}
 use Rattle.law_ticks.proofs.KeysRuns.{run_cells}
 

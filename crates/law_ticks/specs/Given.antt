@@ -2,19 +2,19 @@
 use Rattle.std.specs.Prelude.{ℕ, ◌≡◌, [], All, List, Some}
 use Rattle.std.specs.List.Sorted.{IsStrictlySortedBy}
 use Rattle.std.specs.Map.{keys_of}
-use Rattle.pg_run.specs.pg_base.Id.{file_cmp}
-use Rattle.pg_run.specs.pg_event.declared.event.Event.{Event}
-use Rattle.pg_run.specs.pg_house.Facts.{AreOrdered}
-use Rattle.pg_run.specs.pg_msg.declared.message.Message.{Message}
-use Rattle.pg_run.specs.pg_msg.declared.work.Work.{Work}
-use Rattle.pg_run.specs.pg_store.declared.store.Store.{Store}
-use Rattle.pg_run.specs.pg_pieces.Done.{idle}
-use Rattle.pg_run.specs.theory_flood_pieces.Whole.{IsWhole}
-use Rattle.pg_run.specs.pg_intentions.Beginning.{begin_end}
-use Rattle.pg_run.specs.pg_intentions.Requests.{request}
-use Rattle.pg_run.specs.pg_server.Local.{without_sources, without_volatile}
-use Rattle.pg_run.specs.Golds.{FullReplicasSeeGold}
-use Rattle.pg_run.specs.Laws.{AtEach, HouseIsInOrder, names_after, store_after}
+use Rattle.law_frame.specs.pg_run.pg_base.Id.{file_cmp}
+use Rattle.law_frame.specs.pg_run.pg_event.declared.event.Event.{Event}
+use Rattle.law_frame.specs.pg_run.pg_house.Facts.{AreOrdered}
+use Rattle.law_frame.specs.pg_run.pg_msg.declared.message.Message.{Message}
+use Rattle.law_frame.specs.pg_run.pg_msg.declared.work.Work.{Work}
+use Rattle.law_frame.specs.pg_run.pg_store.declared.store.Store.{Store}
+use Rattle.law_frame.specs.pg_run.pg_pieces.Done.{idle}
+use Rattle.law_frame.specs.pg_run.theory_flood_pieces.Whole.{IsWhole}
+use Rattle.law_frame.specs.pg_run.pg_intentions.Beginning.{begin_end}
+use Rattle.law_frame.specs.pg_run.pg_intentions.Requests.{request}
+use Rattle.law_frame.specs.pg_run.pg_server.Local.{without_sources, without_volatile}
+use Rattle.law_frame.specs.pg_run.Golds.{FullReplicasSeeGold}
+use Rattle.law_frame.specs.pg_run.Laws.{AtEach, HouseIsInOrder, names_after, store_after}
 
 -- entries are by child
 abbrev pub NamesAreOrdered : ℕ → Type 0

@@ -1,31 +1,31 @@
 -- What a run waits for, and what stands on edges: statements.
 use Rattle.std.specs.Prelude.{ℕ, ◌≡◌, ◌≢◌, ◌<◌, ◌↔◌, [], true, List, Some, length, slice_get}
-use Rattle.pg_run.specs.pg_base.declared.id.FileId.{FileId}
-use Rattle.pg_run.specs.pg_edges.declared.key.Key.{Key}
-use Rattle.pg_run.specs.pg_edges.Edges.{tag_at}
-use Rattle.pg_run.specs.pg_entries.declared.cell.Cell.{Cell}
-use Rattle.pg_run.specs.pg_event.declared.event.Event.{Event}
-use Rattle.pg_run.specs.pg_event.declared.quiet.Cause.{Cause}
-use Rattle.pg_run.specs.pg_event.declared.quiet.Cause.TheVariants.{Message, Owed, View}
-use Rattle.pg_run.specs.pg_event.declared.quiet.Owing.{Owing}
-use Rattle.pg_run.specs.pg_event.declared.quiet.Quiet.TheVariants.{Waits}
-use Rattle.pg_run.specs.pg_house.House.{house}
-use Rattle.pg_run.specs.pg_house.Work.{state_of}
-use Rattle.pg_run.specs.pg_msg.declared.message.Sent.{Sent}
-use Rattle.pg_run.specs.pg_msg.declared.summary.Summary.{Summary}
-use Rattle.pg_run.specs.pg_msg.declared.work.Work.{Work}
-use Rattle.pg_run.specs.pg_msg.Sent.{summary}
-use Rattle.pg_run.specs.pg_store.Cells.{cell_at}
-use Rattle.pg_run.specs.pg_replica.declared.replica.Replica.{Replica}
-use Rattle.pg_run.specs.pg_store.Seen.{view_of}
-use Rattle.pg_run.specs.pg_store.Store.{replica_at}
-use Rattle.pg_run.specs.pg_pieces.Done.{idle}
-use Rattle.pg_run.specs.pg_cells.Settling.{settle}
-use Rattle.pg_run.specs.pg_server.Owing.{owed}
-use Rattle.pg_run.specs.Journal.{bag, removals}
-use Rattle.pg_run.specs.Laws.{AtEach, AtLive, names_after, store_after}
-use Rattle.pg_run.specs.Quiet.{quiet_of}
-use Rattle.pg_run.specs.Run.{World, is_live}
+use Rattle.law_frame.specs.pg_run.pg_base.declared.id.FileId.{FileId}
+use Rattle.law_frame.specs.pg_run.pg_edges.declared.key.Key.{Key}
+use Rattle.law_frame.specs.pg_run.pg_edges.Edges.{tag_at}
+use Rattle.law_frame.specs.pg_run.pg_entries.declared.cell.Cell.{Cell}
+use Rattle.law_frame.specs.pg_run.pg_event.declared.event.Event.{Event}
+use Rattle.law_frame.specs.pg_run.pg_event.declared.quiet.Cause.{Cause}
+use Rattle.law_frame.specs.pg_run.pg_event.declared.quiet.Cause.TheVariants.{Message, Owed, View}
+use Rattle.law_frame.specs.pg_run.pg_event.declared.quiet.Owing.{Owing}
+use Rattle.law_frame.specs.pg_run.pg_event.declared.quiet.Quiet.TheVariants.{Waits}
+use Rattle.law_frame.specs.pg_run.pg_house.House.{house}
+use Rattle.law_frame.specs.pg_run.pg_house.Work.{state_of}
+use Rattle.law_frame.specs.pg_run.pg_msg.declared.message.Sent.{Sent}
+use Rattle.law_frame.specs.pg_run.pg_msg.declared.summary.Summary.{Summary}
+use Rattle.law_frame.specs.pg_run.pg_msg.declared.work.Work.{Work}
+use Rattle.law_frame.specs.pg_run.pg_msg.Sent.{summary}
+use Rattle.law_frame.specs.pg_run.pg_store.Cells.{cell_at}
+use Rattle.law_frame.specs.pg_run.pg_replica.declared.replica.Replica.{Replica}
+use Rattle.law_frame.specs.pg_run.pg_store.Seen.{view_of}
+use Rattle.law_frame.specs.pg_run.pg_store.Store.{replica_at}
+use Rattle.law_frame.specs.pg_run.pg_pieces.Done.{idle}
+use Rattle.law_frame.specs.pg_run.pg_cells.Settling.{settle}
+use Rattle.law_frame.specs.pg_run.pg_server.Owing.{owed}
+use Rattle.law_frame.specs.pg_run.Journal.{bag, removals}
+use Rattle.law_frame.specs.pg_run.Laws.{AtEach, AtLive, names_after, store_after}
+use Rattle.law_frame.specs.pg_run.Quiet.{quiet_of}
+use Rattle.law_frame.specs.pg_run.Run.{World, is_live}
 
 -- ---- keys on edges
 

@@ -1,9 +1,9 @@
 //! What holds of all runs. Each law is a clause of a function that does nothing.
 
 ghost use Rattle.std.specs.Prelude.{ℕ};
-ghost use Rattle.pg_run.specs.Golds.{FullReplicasSeeGold};
-ghost use Rattle.pg_run.specs.Laws.{HouseIsInOrder};
-ghost use Rattle.pg_run.specs.Ticks.{RestartsLoseWishes, TicksSendWhatIsOwed};
+ghost use Rattle.law_frame.specs.pg_run.Golds.{FullReplicasSeeGold};
+ghost use Rattle.law_frame.specs.pg_run.Laws.{HouseIsInOrder};
+ghost use Rattle.law_frame.specs.pg_run.Ticks.{RestartsLoseWishes, TicksSendWhatIsOwed};
 ghost use Rattle.law_ticks.specs.Given.{NamesAreOrdered, TidinessIsGiven};
 ghost use Rattle.law_ticks.specs.Laws.{FirstCauseIsTold, KeysHaveCells, NoFlagIsRaised, NoRuleApplies};
 

@@ -1,11 +1,11 @@
 -- The first target of each kind, as the definitions compute it.
 use Rattle.std.proofs.Common.{ℕ, ◌≡◌}
-use Rattle.law_order.specs.pg_intent.declared.intent.Intent.{Intent}
-use Rattle.law_order.specs.pg_intent.declared.intent.Intent.TheVariants as intent
-use Rattle.law_order.specs.pg_intentions.Confirms.{holder}
-use Rattle.law_order.specs.pg_intentions.Seeks.{seek_target}
-use Rattle.law_order.specs.pg_store.declared.store.Store.{Store}
-use Rattle.law_order.specs.pg_store.Servers.{first_target}
+use Rattle.pg_run.specs.pg_intent.declared.intent.Intent.{Intent}
+use Rattle.pg_run.specs.pg_intent.declared.intent.Intent.TheVariants as intent
+use Rattle.pg_run.specs.pg_intentions.Confirms.{holder}
+use Rattle.pg_run.specs.pg_intentions.Seeks.{seek_target}
+use Rattle.pg_run.specs.pg_store.declared.store.Store.{Store}
+use Rattle.pg_run.specs.pg_store.Servers.{first_target}
 
 abbrev pub IsAimed : Store → ℕ → Intent → Type 0
 IsAimed b from (intent.Bye file birth peer peer_birth) = Unit {0}

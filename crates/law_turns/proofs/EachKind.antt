@@ -2,31 +2,31 @@
 use Rattle.std.proofs.Common.{ℕ, ◌≡◌, ◌<◌, ◌++◌, suc, List, [], ◌∷◌, Option, None, Some, is_some, inl, inr, refl, sym, ap, subst, ◌∙◌, arith}
 use Rattle.std.specs.List.{AllByRecursion}
 use Rattle.std.specs.declared.cmp.Ordering.TheVariants.{Less}
-use Rattle.law_order.specs.pg_base.declared.id.FileId.{FileId}
-use Rattle.law_order.specs.pg_intent.declared.intent.Intent.{Intent}
-use Rattle.law_order.specs.pg_intent.declared.intent.Intent.TheVariants as intent
-use Rattle.law_order.specs.pg_intent.declared.key.IntentKey.{IntentKey}
-use Rattle.law_order.specs.pg_intent.declared.key.IntentKey.TheVariants as key
-use Rattle.law_order.specs.pg_intent.Intent.{aimed_at, key_of}
-use Rattle.law_order.specs.pg_intent.Intents.{begun}
-use Rattle.law_order.specs.pg_intent.Key.{key_cmp, rank}
-use Rattle.law_order.specs.pg_intentions.Confirms.{begin_confirm, confirm_of, holder, is_doubtful}
-use Rattle.law_order.specs.pg_intentions.Fills.{begin_fill, fill_of, with_fill_birth, without_wished}
-use Rattle.law_order.specs.pg_intentions.Intending.{begin_intent, each}
-use Rattle.law_order.specs.pg_intentions.Patches.{begin_patch, patch_of}
-use Rattle.law_order.specs.pg_intentions.Seeks.{aim_seek, begin_seek, has_seek, seek_again, seek_target, was_linked}
-use Rattle.law_order.specs.pg_msg.declared.work.Slot.{Slot}
-use Rattle.law_order.specs.pg_msg.declared.work.Work.{Work}
-use Rattle.law_order.specs.pg_names.Names.{NamesValue}
-use Rattle.law_order.specs.pg_pieces.Done.{Done, idle}
-use Rattle.law_order.specs.pg_replica.Replicas.{ByFile}
-use Rattle.law_order.specs.pg_store.declared.store.Store.{Store}
-use Rattle.law_order.specs.pg_store.declared.wishes.Wish.{Wish}
-use Rattle.law_order.specs.pg_store.Births.{fill_at, wish_at}
-use Rattle.law_order.specs.pg_store.Servers.{first_target}
-use Rattle.law_order.specs.pg_store.Store.{is_held}
-use Rattle.law_order.proofs.pg_intentions.Steady.{IsSteady, stays_on}
-use Rattle.law_order.proofs.theory_flood_pieces.Choices.{chosen, decided}
+use Rattle.pg_run.specs.pg_base.declared.id.FileId.{FileId}
+use Rattle.pg_run.specs.pg_intent.declared.intent.Intent.{Intent}
+use Rattle.pg_run.specs.pg_intent.declared.intent.Intent.TheVariants as intent
+use Rattle.pg_run.specs.pg_intent.declared.key.IntentKey.{IntentKey}
+use Rattle.pg_run.specs.pg_intent.declared.key.IntentKey.TheVariants as key
+use Rattle.pg_run.specs.pg_intent.Intent.{aimed_at, key_of}
+use Rattle.pg_run.specs.pg_intent.Intents.{begun}
+use Rattle.pg_run.specs.pg_intent.Key.{key_cmp, rank}
+use Rattle.pg_run.specs.pg_intentions.Confirms.{begin_confirm, confirm_of, holder, is_doubtful}
+use Rattle.pg_run.specs.pg_intentions.Fills.{begin_fill, fill_of, with_fill_birth, without_wished}
+use Rattle.pg_run.specs.pg_intentions.Intending.{begin_intent, each}
+use Rattle.pg_run.specs.pg_intentions.Patches.{begin_patch, patch_of}
+use Rattle.pg_run.specs.pg_intentions.Seeks.{aim_seek, begin_seek, has_seek, seek_again, seek_target, was_linked}
+use Rattle.pg_run.specs.pg_msg.declared.work.Slot.{Slot}
+use Rattle.pg_run.specs.pg_msg.declared.work.Work.{Work}
+use Rattle.pg_run.specs.pg_names.Names.{NamesValue}
+use Rattle.pg_run.specs.pg_pieces.Done.{Done, idle}
+use Rattle.pg_run.specs.pg_replica.Replicas.{ByFile}
+use Rattle.pg_run.specs.pg_store.declared.store.Store.{Store}
+use Rattle.pg_run.specs.pg_store.declared.wishes.Wish.{Wish}
+use Rattle.pg_run.specs.pg_store.Births.{fill_at, wish_at}
+use Rattle.pg_run.specs.pg_store.Servers.{first_target}
+use Rattle.pg_run.specs.pg_store.Store.{is_held}
+use Rattle.pg_run.proofs.pg_intentions.Steady.{IsSteady, stays_on}
+use Rattle.pg_run.proofs.theory_flood_pieces.Choices.{chosen, decided}
 use Rattle.law_turns.proofs.Aims.{IsAimed}
 use Rattle.law_turns.proofs.Shapes.{Before, More, Parts, aims_keep, begun_more, in_place, no_more, rank_less}
 use Rattle.law_turns.proofs.Sorting.{Rising}

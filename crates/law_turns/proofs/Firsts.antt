@@ -4,44 +4,44 @@ use Rattle.std.specs.List.{AllByRecursion}
 use Rattle.std.specs.Map.{keys_of}
 use Rattle.std.specs.Option.{option_map}
 use Rattle.std.proofs.lemmas.Bool.{false≢true, or_left, or_right}
-use Rattle.law_order.specs.pg_base.declared.id.FileId.{FileId}
-use Rattle.law_order.specs.pg_call.declared.call.Call.{Call}
-use Rattle.law_order.specs.pg_call.declared.call.Call.TheVariants as call
-use Rattle.law_order.specs.pg_call.declared.reply.Reply.TheVariants as reply
-use Rattle.law_order.specs.pg_calls.GivingUp.{enter_view}
-use Rattle.law_order.specs.pg_checks.Answer.{answer, answered}
-use Rattle.law_order.specs.pg_entries.declared.cell.Cell.TheVariants as cells
-use Rattle.law_order.specs.pg_house.House.{house}
-use Rattle.law_order.specs.pg_house.Work.{state_of}
-use Rattle.law_order.specs.pg_intent.declared.intent.Intent.{Intent}
-use Rattle.law_order.specs.pg_intent.declared.key.IntentKey.{IntentKey}
-use Rattle.law_order.specs.pg_intent.declared.key.IntentKey.TheVariants as key
-use Rattle.law_order.specs.pg_intent.Intent.{aimed_at, key_of}
-use Rattle.law_order.specs.pg_intent.Intents.{has_key, intent_at, keys_to, stands}
-use Rattle.law_order.specs.pg_intent.Key.{is_for_peer}
-use Rattle.law_order.specs.pg_lookup.declared.paths.LookupError.{LookupError}
-use Rattle.law_order.specs.pg_msg.declared.message.Message.{Message}
-use Rattle.law_order.specs.pg_msg.declared.message.Message.TheVariants as message
-use Rattle.law_order.specs.pg_msg.declared.work.Work.{Work}
-use Rattle.law_order.specs.pg_msg.Work.{new_work}
-use Rattle.law_order.specs.pg_cells.Settling.{settle}
-use Rattle.law_order.specs.pg_cells.Ticks.{tick}
-use Rattle.law_order.specs.pg_intentions.Requests.{ask_all}
-use Rattle.law_order.specs.pg_pieces.Done.{Done, idle}
-use Rattle.law_order.specs.pg_pieces.Making.{own_next}
-use Rattle.law_order.specs.pg_server.declared.input.Input.{Input}
-use Rattle.law_order.specs.pg_server.declared.input.Input.TheVariants as input
-use Rattle.law_order.specs.pg_server.Local.{first_effect, is_heard, receive, ticked, without_sources}
-use Rattle.law_order.specs.pg_store.declared.store.Store.{Store}
-use Rattle.law_order.specs.pg_store.Servers.{next_target}
-use Rattle.law_order.specs.pg_store.Store.{is_before_clock_end, is_newer_flag, put_flag}
-use Rattle.law_order.specs.pg_store.Views.{cut, cut_born, cut_each, enter, listed_birth, with_removed}
-use Rattle.law_order.proofs.pg_cells.Settled.{settle_keeps}
-use Rattle.law_order.proofs.pg_intent.Found.{stands_is}
-use Rattle.law_order.proofs.pg_intent.SameKey.{is_same_key-refl}
-use Rattle.law_order.proofs.pg_intent.Turned.{each_found, is_one_of, turned_as}
+use Rattle.pg_run.specs.pg_base.declared.id.FileId.{FileId}
+use Rattle.pg_run.specs.pg_call.declared.call.Call.{Call}
+use Rattle.pg_run.specs.pg_call.declared.call.Call.TheVariants as call
+use Rattle.pg_run.specs.pg_call.declared.reply.Reply.TheVariants as reply
+use Rattle.pg_run.specs.pg_calls.GivingUp.{enter_view}
+use Rattle.pg_run.specs.pg_checks.Answer.{answer, answered}
+use Rattle.pg_run.specs.pg_entries.declared.cell.Cell.TheVariants as cells
+use Rattle.pg_run.specs.pg_house.House.{house}
+use Rattle.pg_run.specs.pg_house.Work.{state_of}
+use Rattle.pg_run.specs.pg_intent.declared.intent.Intent.{Intent}
+use Rattle.pg_run.specs.pg_intent.declared.key.IntentKey.{IntentKey}
+use Rattle.pg_run.specs.pg_intent.declared.key.IntentKey.TheVariants as key
+use Rattle.pg_run.specs.pg_intent.Intent.{aimed_at, key_of}
+use Rattle.pg_run.specs.pg_intent.Intents.{has_key, intent_at, keys_to, stands}
+use Rattle.pg_run.specs.pg_intent.Key.{is_for_peer}
+use Rattle.pg_run.specs.pg_lookup.declared.paths.LookupError.{LookupError}
+use Rattle.pg_run.specs.pg_msg.declared.message.Message.{Message}
+use Rattle.pg_run.specs.pg_msg.declared.message.Message.TheVariants as message
+use Rattle.pg_run.specs.pg_msg.declared.work.Work.{Work}
+use Rattle.pg_run.specs.pg_msg.Work.{new_work}
+use Rattle.pg_run.specs.pg_cells.Settling.{settle}
+use Rattle.pg_run.specs.pg_cells.Ticks.{tick}
+use Rattle.pg_run.specs.pg_intentions.Requests.{ask_all}
+use Rattle.pg_run.specs.pg_pieces.Done.{Done, idle}
+use Rattle.pg_run.specs.pg_pieces.Making.{own_next}
+use Rattle.pg_run.specs.pg_server.declared.input.Input.{Input}
+use Rattle.pg_run.specs.pg_server.declared.input.Input.TheVariants as input
+use Rattle.pg_run.specs.pg_server.Local.{first_effect, is_heard, receive, ticked, without_sources}
+use Rattle.pg_run.specs.pg_store.declared.store.Store.{Store}
+use Rattle.pg_run.specs.pg_store.Servers.{next_target}
+use Rattle.pg_run.specs.pg_store.Store.{is_before_clock_end, is_newer_flag, put_flag}
+use Rattle.pg_run.specs.pg_store.Views.{cut, cut_born, cut_each, enter, listed_birth, with_removed}
+use Rattle.pg_run.proofs.pg_cells.Settled.{settle_keeps}
+use Rattle.pg_run.proofs.pg_intent.Found.{stands_is}
+use Rattle.pg_run.proofs.pg_intent.SameKey.{is_same_key-refl}
+use Rattle.pg_run.proofs.pg_intent.Turned.{each_found, is_one_of, turned_as}
 use Rattle.law_order.proofs.Sounding.{rules_intents}
-use Rattle.law_order.proofs.theory_flood_pieces.Choices.{chosen}
+use Rattle.pg_run.proofs.theory_flood_pieces.Choices.{chosen}
 use Rattle.theory_listing_house.proofs.Works.{house_see}
 use Rattle.law_full.proofs.Called.{call_sends}
 use Rattle.law_full.proofs.Replies.{receive_sends, tick_sends}

@@ -10,16 +10,16 @@ use Rattle.std.proofs.lemmas.Bool.Decides.{nat_tests}
 use Rattle.std.proofs.lemmas.Cmp.{nat_cmp_total, tied_itself}
 use Rattle.std.proofs.lemmas.List.{append_assoc}
 use Rattle.std.proofs.lemmas.List.Folds.{list_any-append}
-use Rattle.law_order.specs.pg_base.Id.{file_cmp}
-use Rattle.law_order.specs.pg_intent.declared.intent.Intent.{Intent}
-use Rattle.law_order.specs.pg_intent.declared.intent.Intent.TheVariants as intent
-use Rattle.law_order.specs.pg_intent.declared.key.IntentKey.{IntentKey}
-use Rattle.law_order.specs.pg_intent.declared.key.IntentKey.TheVariants as key
-use Rattle.law_order.specs.pg_intent.Intent.{aimed_at, key_of, rejoined}
-use Rattle.law_order.specs.pg_intent.Intents.{begun, changed, has_key, stands}
-use Rattle.law_order.specs.pg_intent.Key.{key_cmp, rank, same_rank_cmp}
-use Rattle.law_order.proofs.pg_base.Orders.{file_total}
-use Rattle.law_order.proofs.pg_intent.SameKey.{is_same_key-true}
+use Rattle.pg_run.specs.pg_base.Id.{file_cmp}
+use Rattle.pg_run.specs.pg_intent.declared.intent.Intent.{Intent}
+use Rattle.pg_run.specs.pg_intent.declared.intent.Intent.TheVariants as intent
+use Rattle.pg_run.specs.pg_intent.declared.key.IntentKey.{IntentKey}
+use Rattle.pg_run.specs.pg_intent.declared.key.IntentKey.TheVariants as key
+use Rattle.pg_run.specs.pg_intent.Intent.{aimed_at, key_of, rejoined}
+use Rattle.pg_run.specs.pg_intent.Intents.{begun, changed, has_key, stands}
+use Rattle.pg_run.specs.pg_intent.Key.{key_cmp, rank, same_rank_cmp}
+use Rattle.pg_run.proofs.pg_base.Orders.{file_total}
+use Rattle.pg_run.proofs.pg_intent.SameKey.{is_same_key-true}
 
 -- ---- the order of keys
 

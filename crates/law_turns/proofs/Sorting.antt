@@ -7,22 +7,22 @@ use Rattle.std.specs.Map.{keys_of}
 use Rattle.std.specs.declared.cmp.Ordering.{Ordering}
 use Rattle.std.specs.declared.cmp.Ordering.TheVariants.{Less}
 use Rattle.std.proofs.lemmas.List.Kept.{IsStrictlySortedBy-filter}
-use Rattle.law_order.specs.pg_base.declared.id.FileId.{FileId}
-use Rattle.law_order.specs.pg_base.Id.{file_cmp}
-use Rattle.law_order.specs.pg_intent.declared.key.IntentKey.{IntentKey}
-use Rattle.law_order.specs.pg_intent.Key.{key_cmp}
-use Rattle.law_order.specs.pg_intentions.Fills.{lacks_parent, to_fill, with_each, with_filling, with_held}
-use Rattle.law_order.specs.pg_intentions.Intending.{Slots, add_slots, in_order}
-use Rattle.law_order.specs.pg_intentions.Seeks.{is_seeking, to_seek}
-use Rattle.law_order.specs.pg_msg.declared.work.Slot.{Slot}
-use Rattle.law_order.specs.pg_msg.Work.{slot_cmp}
-use Rattle.law_order.specs.pg_names.Names.{InodeValue, NamesValue}
-use Rattle.law_order.specs.pg_replica.Index.{Files}
-use Rattle.law_order.specs.pg_store.declared.store.Store.{Store}
-use Rattle.law_order.proofs.pg_base.Entries.{IsStrictlySortedBy-insert_entry}
-use Rattle.law_order.proofs.pg_base.Orders.{file_total}
-use Rattle.law_order.proofs.theory_flood_pieces.Choices.{chosen}
-use Rattle.law_order.proofs.pg_run.pg_msg.Slots.{slot_total}
+use Rattle.pg_run.specs.pg_base.declared.id.FileId.{FileId}
+use Rattle.pg_run.specs.pg_base.Id.{file_cmp}
+use Rattle.pg_run.specs.pg_intent.declared.key.IntentKey.{IntentKey}
+use Rattle.pg_run.specs.pg_intent.Key.{key_cmp}
+use Rattle.pg_run.specs.pg_intentions.Fills.{lacks_parent, to_fill, with_each, with_filling, with_held}
+use Rattle.pg_run.specs.pg_intentions.Intending.{Slots, add_slots, in_order}
+use Rattle.pg_run.specs.pg_intentions.Seeks.{is_seeking, to_seek}
+use Rattle.pg_run.specs.pg_msg.declared.work.Slot.{Slot}
+use Rattle.pg_run.specs.pg_msg.Work.{slot_cmp}
+use Rattle.pg_run.specs.pg_names.Names.{InodeValue, NamesValue}
+use Rattle.pg_run.specs.pg_replica.Index.{Files}
+use Rattle.pg_run.specs.pg_store.declared.store.Store.{Store}
+use Rattle.pg_run.proofs.pg_base.Entries.{IsStrictlySortedBy-insert_entry}
+use Rattle.pg_run.proofs.pg_base.Orders.{file_total}
+use Rattle.pg_run.proofs.theory_flood_pieces.Choices.{chosen}
+use Rattle.pg_run.proofs.pg_msg.Slots.{slot_total}
 
 abbrev NoSlots : Slots
 NoSlots = []

@@ -5,38 +5,38 @@ use Rattle.std.specs.List.{find, IsAmong}
 use Rattle.std.specs.Option.{IfSome, option_map, unwrap_or}
 use Rattle.std.proofs.lemmas.Bool.{and_from, and_parts, eqb-true, false≢true, ne_eqb, not-true, not_from_false, true≢false}
 use Rattle.std.proofs.lemmas.Option.{none-some, same_Some}
-use Rattle.law_order.specs.pg_base.declared.id.FileId.{FileId}
-use Rattle.law_order.specs.pg_content.Content.{Among}
-use Rattle.law_order.proofs.pg_content.Members.{all_among, any_by, any_found}
-use Rattle.law_order.specs.pg_edges.declared.edge.Edge.{Edge}
-use Rattle.law_order.specs.pg_edges.Edges.{AscendFrom, edge_to, is_listed, keys_if_born, peers}
-use Rattle.law_order.specs.pg_entries.declared.entry.Entry.{Entry}
-use Rattle.law_order.specs.pg_intent.declared.intent.Intent.{Intent}
-use Rattle.law_order.specs.pg_intent.declared.intent.Intent.TheVariants as intent
-use Rattle.law_order.specs.pg_intent.Target as target
-use Rattle.law_order.proofs.pg_intent.Above.{is_next_as, not_equal}
-use Rattle.law_order.specs.pg_intentions.Confirms.{holder, holder_by}
-use Rattle.law_order.specs.pg_intentions.Seeks.{is_apart, seek_target, target_or_next}
-use Rattle.law_order.specs.pg_graph.Walks.{edges_of}
-use Rattle.law_order.specs.pg_names.declared.attributes.Attributes.{Attributes}
-use Rattle.law_order.specs.pg_names.Names.{cell_at, or_blank, own_at}
-use Rattle.law_order.specs.pg_pieces.Golds.{flags_of}
-use Rattle.law_order.specs.pg_register.declared.flag.Flag.{Flag}
-use Rattle.law_order.specs.pg_register.Flag.{IsByServer, is_live, is_live_other, is_removed}
-use Rattle.law_order.proofs.pg_register.ByServer.{IsByServer-nil}
-use Rattle.law_order.proofs.pg_register.Indexes.{first-least}
-use Rattle.law_order.specs.pg_replica.declared.replica.Replica.{Replica}
-use Rattle.law_order.specs.pg_replica.Replicas.{or_nothing}
-use Rattle.law_order.specs.pg_store.declared.store.Store.{Store}
-use Rattle.law_order.specs.pg_store.Seen.{removed_of, server_of}
-use Rattle.law_order.specs.pg_store.Servers.{first_target, next_target}
-use Rattle.law_order.specs.pg_store.Store.{replica_at}
-use Rattle.law_order.specs.theory_flood_pieces.Whole.{AreEdges, IsWhole}
-use Rattle.law_order.proofs.theory_flood_pieces.Choices.{found_replica}
-use Rattle.law_order.proofs.theory_flood_pieces.Found.{edges_found}
-use Rattle.law_order.specs.pg_run.Golds.{NamesOne}
-use Rattle.law_order.proofs.pg_run.Found.{listed_edge}
-use Rattle.law_order.proofs.pg_run.Lists.{among_contained, contained_among}
+use Rattle.pg_run.specs.pg_base.declared.id.FileId.{FileId}
+use Rattle.pg_run.specs.pg_content.Content.{Among}
+use Rattle.pg_run.proofs.pg_content.Members.{all_among, any_by, any_found}
+use Rattle.pg_run.specs.pg_edges.declared.edge.Edge.{Edge}
+use Rattle.pg_run.specs.pg_edges.Edges.{AscendFrom, edge_to, is_listed, keys_if_born, peers}
+use Rattle.pg_run.specs.pg_entries.declared.entry.Entry.{Entry}
+use Rattle.pg_run.specs.pg_intent.declared.intent.Intent.{Intent}
+use Rattle.pg_run.specs.pg_intent.declared.intent.Intent.TheVariants as intent
+use Rattle.pg_run.specs.pg_intent.Target as target
+use Rattle.pg_run.proofs.pg_intent.Above.{is_next_as, not_equal}
+use Rattle.pg_run.specs.pg_intentions.Confirms.{holder, holder_by}
+use Rattle.pg_run.specs.pg_intentions.Seeks.{is_apart, seek_target, target_or_next}
+use Rattle.pg_run.specs.pg_graph.Walks.{edges_of}
+use Rattle.pg_run.specs.pg_names.declared.attributes.Attributes.{Attributes}
+use Rattle.pg_run.specs.pg_names.Names.{cell_at, or_blank, own_at}
+use Rattle.pg_run.specs.pg_pieces.Golds.{flags_of}
+use Rattle.pg_run.specs.pg_register.declared.flag.Flag.{Flag}
+use Rattle.pg_run.specs.pg_register.Flag.{IsByServer, is_live, is_live_other, is_removed}
+use Rattle.pg_run.proofs.pg_register.ByServer.{IsByServer-nil}
+use Rattle.pg_run.proofs.pg_register.Indexes.{first-least}
+use Rattle.pg_run.specs.pg_replica.declared.replica.Replica.{Replica}
+use Rattle.pg_run.specs.pg_replica.Replicas.{or_nothing}
+use Rattle.pg_run.specs.pg_store.declared.store.Store.{Store}
+use Rattle.pg_run.specs.pg_store.Seen.{removed_of, server_of}
+use Rattle.pg_run.specs.pg_store.Servers.{first_target, next_target}
+use Rattle.pg_run.specs.pg_store.Store.{replica_at}
+use Rattle.pg_run.specs.theory_flood_pieces.Whole.{AreEdges, IsWhole}
+use Rattle.pg_run.proofs.theory_flood_pieces.Choices.{found_replica}
+use Rattle.pg_run.proofs.theory_flood_pieces.Found.{edges_found}
+use Rattle.pg_run.specs.Golds.{NamesOne}
+use Rattle.pg_run.proofs.Found.{listed_edge}
+use Rattle.pg_run.proofs.Lists.{among_contained, contained_among}
 use Rattle.law_turns.specs.Targets.{IsHolder, IsLeastOrNext, IsLiveOther, IsNextBehind, IsOtherGold, IsTellerOrNext, IsUnmatched}
 use Rattle.law_turns.specs.Turns.{IsFirstTarget}
 use Rattle.law_turns.proofs.Aims.{IsAimed}

@@ -3,25 +3,25 @@ use Rattle.std.proofs.Common.{ℕ, ◌≡◌, ◌++◌, true, cond, List, [], �
 use Rattle.std.specs.List.{AllByRecursion}
 use Rattle.std.specs.List.Sorted.{IsStrictlySortedBy}
 use Rattle.std.specs.Map.{keys_of}
-use Rattle.law_order.specs.pg_base.declared.id.FileId.{FileId}
-use Rattle.law_order.specs.pg_base.Id.{file_cmp}
-use Rattle.law_order.specs.pg_entries.declared.entry.Entry.{Entry}
-use Rattle.law_order.specs.pg_event.declared.event.Event.{Event}
-use Rattle.law_order.specs.pg_intent.declared.intent.Intent.{Intent}
-use Rattle.law_order.specs.pg_intentions.Beginning.{begin_end}
-use Rattle.law_order.specs.pg_names.Names.{cell_at}
-use Rattle.law_order.specs.pg_register.Flag.{IsByServer}
-use Rattle.law_order.specs.pg_pieces.Done.{Done}
-use Rattle.law_order.specs.pg_server.declared.input.Input.{Input}
-use Rattle.law_order.specs.pg_server.Local.{closed, effect, finished, first_effect, reply_to, settled, takes_effect}
-use Rattle.law_order.specs.pg_store.declared.store.Store.{Store}
-use Rattle.law_order.specs.pg_run.Laws.{AtEach}
-use Rattle.law_order.specs.pg_run.Run.{Step, Taking, World, next, run, start}
-use Rattle.law_order.specs.theory_flood_pieces.Whole.{IsWhole}
+use Rattle.pg_run.specs.pg_base.declared.id.FileId.{FileId}
+use Rattle.pg_run.specs.pg_base.Id.{file_cmp}
+use Rattle.pg_run.specs.pg_entries.declared.entry.Entry.{Entry}
+use Rattle.pg_run.specs.pg_event.declared.event.Event.{Event}
+use Rattle.pg_run.specs.pg_intent.declared.intent.Intent.{Intent}
+use Rattle.pg_run.specs.pg_intentions.Beginning.{begin_end}
+use Rattle.pg_run.specs.pg_names.Names.{cell_at}
+use Rattle.pg_run.specs.pg_register.Flag.{IsByServer}
+use Rattle.pg_run.specs.pg_pieces.Done.{Done}
+use Rattle.pg_run.specs.pg_server.declared.input.Input.{Input}
+use Rattle.pg_run.specs.pg_server.Local.{closed, effect, finished, first_effect, reply_to, settled, takes_effect}
+use Rattle.pg_run.specs.pg_store.declared.store.Store.{Store}
+use Rattle.pg_run.specs.Laws.{AtEach}
+use Rattle.pg_run.specs.Run.{Step, Taking, World, next, run, start}
+use Rattle.pg_run.specs.theory_flood_pieces.Whole.{IsWhole}
 use Rattle.law_order.specs.Laws.{NamesAreById}
 use Rattle.law_order.proofs.Told.{all_named, servers_whole}
-use Rattle.law_order.proofs.pg_intentions.Steady.{begin_end_stays}
-use Rattle.law_order.proofs.pg_run.Frame.{acts_is, next_is, run_more}
+use Rattle.pg_run.proofs.pg_intentions.Steady.{begin_end_stays}
+use Rattle.pg_run.proofs.Frame.{acts_is, next_is, run_more}
 use Rattle.law_turns.specs.Turns.{BeginsInTurn, IntentionsBeginInTurn, IsFirstTarget, IsOlder, sender_in}
 use Rattle.law_turns.proofs.Aims.{IsAimed}
 use Rattle.law_turns.proofs.Firsts.{from_then, older_then}

@@ -4,22 +4,22 @@ use Rattle.std.specs.List.{AllByRecursion, filter}
 use Rattle.std.specs.List.Sorted.{IsStrictlySortedBy}
 use Rattle.std.specs.Map.{keys_of}
 use Rattle.std.proofs.lemmas.List.{append-nil}
-use Rattle.law_order.specs.pg_base.Id.{file_cmp}
-use Rattle.law_order.specs.pg_intent.declared.intent.Intent.{Intent}
-use Rattle.law_order.specs.pg_intent.declared.key.IntentKey.{IntentKey}
-use Rattle.law_order.specs.pg_intent.declared.key.IntentKey.TheVariants as key
-use Rattle.law_order.specs.pg_intent.Intent.{key_of}
-use Rattle.law_order.specs.pg_intentions.Beginning.{begin_end, end_others, still_stands}
-use Rattle.law_order.specs.pg_intentions.Confirms.{begin_confirm}
-use Rattle.law_order.specs.pg_intentions.Fills.{begin_fill, begin_fills, files_to_fill, to_fill}
-use Rattle.law_order.specs.pg_intentions.Intending.{in_order}
-use Rattle.law_order.specs.pg_intentions.Patches.{begin_patch, begin_patches}
-use Rattle.law_order.specs.pg_intentions.Seeks.{begin_seek, begin_seeks, to_seek}
-use Rattle.law_order.specs.pg_msg.declared.work.Work.{Work}
-use Rattle.law_order.specs.pg_msg.Work.{slot_cmp}
-use Rattle.law_order.specs.pg_pieces.Done.{Done}
-use Rattle.law_order.specs.pg_store.declared.store.Store.{Store}
-use Rattle.law_order.proofs.pg_intentions.Steady.{IsSteady, confirm_stays, each_stays, fill_stays, patch_stays, seek_stays, stays, stays_on}
+use Rattle.pg_run.specs.pg_base.Id.{file_cmp}
+use Rattle.pg_run.specs.pg_intent.declared.intent.Intent.{Intent}
+use Rattle.pg_run.specs.pg_intent.declared.key.IntentKey.{IntentKey}
+use Rattle.pg_run.specs.pg_intent.declared.key.IntentKey.TheVariants as key
+use Rattle.pg_run.specs.pg_intent.Intent.{key_of}
+use Rattle.pg_run.specs.pg_intentions.Beginning.{begin_end, end_others, still_stands}
+use Rattle.pg_run.specs.pg_intentions.Confirms.{begin_confirm}
+use Rattle.pg_run.specs.pg_intentions.Fills.{begin_fill, begin_fills, files_to_fill, to_fill}
+use Rattle.pg_run.specs.pg_intentions.Intending.{in_order}
+use Rattle.pg_run.specs.pg_intentions.Patches.{begin_patch, begin_patches}
+use Rattle.pg_run.specs.pg_intentions.Seeks.{begin_seek, begin_seeks, to_seek}
+use Rattle.pg_run.specs.pg_msg.declared.work.Work.{Work}
+use Rattle.pg_run.specs.pg_msg.Work.{slot_cmp}
+use Rattle.pg_run.specs.pg_pieces.Done.{Done}
+use Rattle.pg_run.specs.pg_store.declared.store.Store.{Store}
+use Rattle.pg_run.proofs.pg_intentions.Steady.{IsSteady, confirm_stays, each_stays, fill_stays, patch_stays, seek_stays, stays, stays_on}
 use Rattle.law_turns.proofs.Aims.{IsAimed}
 use Rattle.law_turns.proofs.EachKind.{Bounded, Split, confirm_one, fill_one, kind_begins, patch_one, seek_one, targets_are}
 use Rattle.law_turns.proofs.Shapes.{all_to, none_began}

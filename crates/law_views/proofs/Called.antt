@@ -1,36 +1,36 @@
 -- What comes of each call but one: wishes that ask live servers, and messages in the server's view.
 use Rattle.std.proofs.Common.{ℕ, ◌≡◌, false, true, List, refl, ap, sym, ◌∙◌}
 use Rattle.std.proofs.lemmas.Bool.{false≢true}
-use Rattle.pg_run.specs.pg_call.declared.reply.Reply.TheVariants as reply
-use Rattle.pg_run.specs.pg_call.declared.refusal.Refusal.TheVariants.{NotYet}
-use Rattle.pg_run.specs.pg_base.declared.id.FileId.{FileId}
-use Rattle.pg_run.specs.pg_base.declared.policy.Policy.TheVariants.{Last}
-use Rattle.pg_run.specs.pg_call.declared.call.Call.{Call}
-use Rattle.pg_run.specs.pg_call.declared.call.Call.TheVariants as call
-use Rattle.pg_run.specs.pg_intent.declared.key.IntentKey.TheVariants as intent_key
-use Rattle.pg_run.specs.pg_intent.Intents.{ended}
-use Rattle.pg_run.specs.pg_lookup.declared.paths.LookupError.{LookupError}
-use Rattle.pg_run.specs.pg_msg.declared.message.Message.TheVariants as message
-use Rattle.pg_run.specs.pg_msg.declared.update.Update.TheVariants as update
-use Rattle.pg_run.specs.pg_msg.declared.work.Work.{Work}
-use Rattle.pg_run.specs.pg_msg.Work.{with_made}
-use Rattle.pg_run.specs.pg_names.Names.{blank_own}
-use Rattle.pg_run.specs.pg_patch.Ranges.{RangesValue}
-use Rattle.pg_run.specs.pg_store.declared.store.Store.{Store}
-use Rattle.pg_run.specs.pg_store.Births.{draw_birth, with_birth, with_wish}
-use Rattle.pg_run.specs.pg_store.Store.{write, is_full}
-use Rattle.pg_run.specs.pg_store.Wishes.{without_wish}
-use Rattle.pg_run.specs.pg_pieces.Done.{Done, idle}
-use Rattle.pg_run.specs.pg_pieces.Making.{own_next}
-use Rattle.pg_run.specs.pg_pieces.Posting.{post}
-use Rattle.pg_run.specs.pg_checks.Answer.{deny}
-use Rattle.pg_run.specs.pg_checks.Asking.{fresh_wish, holder}
-use Rattle.pg_run.specs.pg_calls.Calls.{do_call}
-use Rattle.pg_run.specs.pg_calls.Dropping.{leave_of}
-use Rattle.pg_run.specs.pg_calls.Forgetting.{bare_entry, begun_with, dead_at, unfilled, unwished}
-use Rattle.pg_run.specs.pg_calls.Making.{drawn, make_version, version_of, with_version}
-use Rattle.pg_run.specs.pg_calls.Naming.{begun, next_id, with_id}
-use Rattle.pg_run.proofs.TailsOfCalls.{is_giveup}
+use Rattle.law_frame.specs.pg_run.pg_call.declared.reply.Reply.TheVariants as reply
+use Rattle.law_frame.specs.pg_run.pg_call.declared.refusal.Refusal.TheVariants.{NotYet}
+use Rattle.law_frame.specs.pg_run.pg_base.declared.id.FileId.{FileId}
+use Rattle.law_frame.specs.pg_run.pg_base.declared.policy.Policy.TheVariants.{Last}
+use Rattle.law_frame.specs.pg_run.pg_call.declared.call.Call.{Call}
+use Rattle.law_frame.specs.pg_run.pg_call.declared.call.Call.TheVariants as call
+use Rattle.law_frame.specs.pg_run.pg_intent.declared.key.IntentKey.TheVariants as intent_key
+use Rattle.law_frame.specs.pg_run.pg_intent.Intents.{ended}
+use Rattle.law_frame.specs.pg_run.pg_lookup.declared.paths.LookupError.{LookupError}
+use Rattle.law_frame.specs.pg_run.pg_msg.declared.message.Message.TheVariants as message
+use Rattle.law_frame.specs.pg_run.pg_msg.declared.update.Update.TheVariants as update
+use Rattle.law_frame.specs.pg_run.pg_msg.declared.work.Work.{Work}
+use Rattle.law_frame.specs.pg_run.pg_msg.Work.{with_made}
+use Rattle.law_frame.specs.pg_run.pg_names.Names.{blank_own}
+use Rattle.law_frame.specs.pg_run.pg_patch.Ranges.{RangesValue}
+use Rattle.law_frame.specs.pg_run.pg_store.declared.store.Store.{Store}
+use Rattle.law_frame.specs.pg_run.pg_store.Births.{draw_birth, with_birth, with_wish}
+use Rattle.law_frame.specs.pg_run.pg_store.Store.{write, is_full}
+use Rattle.law_frame.specs.pg_run.pg_store.Wishes.{without_wish}
+use Rattle.law_frame.specs.pg_run.pg_pieces.Done.{Done, idle}
+use Rattle.law_frame.specs.pg_run.pg_pieces.Making.{own_next}
+use Rattle.law_frame.specs.pg_run.pg_pieces.Posting.{post}
+use Rattle.law_frame.specs.pg_run.pg_checks.Answer.{deny}
+use Rattle.law_frame.specs.pg_run.pg_checks.Asking.{fresh_wish, holder}
+use Rattle.law_frame.specs.pg_run.pg_calls.Calls.{do_call}
+use Rattle.law_frame.specs.pg_run.pg_calls.Dropping.{leave_of}
+use Rattle.law_frame.specs.pg_run.pg_calls.Forgetting.{bare_entry, begun_with, dead_at, unfilled, unwished}
+use Rattle.law_frame.specs.pg_run.pg_calls.Making.{drawn, make_version, version_of, with_version}
+use Rattle.law_frame.specs.pg_run.pg_calls.Naming.{begun, next_id, with_id}
+use Rattle.law_frame.proofs.pg_run.TailsOfCalls.{is_giveup}
 use Rattle.law_frame.proofs.Called.{call_keeps}
 use Rattle.law_frame.proofs.Called as calls
 use Rattle.law_frame.proofs.KeepsCalls.{KeepsCalls}

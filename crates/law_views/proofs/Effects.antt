@@ -7,60 +7,60 @@ use Rattle.std.proofs.lemmas.Bool.{and_parts}
 use Rattle.std.proofs.lemmas.List.Elements.{All-append, All-nil, All-weaker}
 use Rattle.std.proofs.lemmas.Option.{none-some, same_Some}
 use Rattle.std.specs.List.{flat_map}
-use Rattle.pg_run.proofs.pg_calls.Refused.{refused_only_asks}
-use Rattle.pg_run.specs.pg_call.declared.refusal.Refusal.TheVariants.{NotYet}
-use Rattle.pg_run.specs.pg_base.declared.id.FileId.{FileId}
-use Rattle.pg_run.specs.pg_edges.declared.edge.Edge.{Edge}
-use Rattle.pg_run.specs.pg_announced.Announced.{released}
-use Rattle.pg_run.specs.pg_entries.declared.cell.Cell.{Cell}
-use Rattle.pg_run.specs.pg_entries.declared.cell.Cell.TheVariants as cell_kind
-use Rattle.pg_run.specs.pg_call.declared.refusal.Refusal.TheVariants as refusal
-use Rattle.pg_run.specs.pg_intent.declared.key.IntentKey.{IntentKey}
-use Rattle.pg_run.specs.pg_intent.Intent.{target_of}
-use Rattle.pg_run.specs.pg_msg.Numbers.{is_in_range}
-use Rattle.pg_run.specs.pg_store.Births.{birth_of}
-use Rattle.pg_run.specs.pg_pieces.Accepting.{ends_to}
-use Rattle.pg_run.specs.pg_call.declared.call.Call.{Call}
-use Rattle.pg_run.specs.pg_call.declared.call.Call.TheVariants as call
-use Rattle.pg_run.specs.pg_call.declared.reply.Reply.TheVariants as reply
-use Rattle.pg_run.specs.pg_entries.declared.entry.Entry.{Entry}
-use Rattle.pg_run.specs.pg_intent.declared.intent.Intent.{Intent}
-use Rattle.pg_run.specs.pg_intent.declared.intent.Intent.TheVariants as intent
-use Rattle.pg_run.specs.pg_msg.declared.message.Ends.{Ends}
-use Rattle.pg_run.specs.pg_msg.declared.message.Message.{Message}
-use Rattle.pg_run.specs.pg_msg.declared.message.Message.TheVariants as message
-use Rattle.pg_run.specs.pg_msg.declared.message.Packet.{Packet}
-use Rattle.pg_run.specs.pg_msg.declared.message.Sent.{Sent}
-use Rattle.pg_run.specs.pg_msg.declared.work.Work.{Work}
-use Rattle.pg_run.specs.pg_msg.Work.{new_work}
-use Rattle.pg_run.specs.pg_names.declared.attributes.Attributes.{Attributes}
-use Rattle.pg_run.specs.pg_names.Names.{cell_at as entry_at, own_at}
-use Rattle.pg_run.specs.pg_register.Flag.{is_removed}
-use Rattle.pg_run.specs.pg_store.declared.store.Store.{Store}
-use Rattle.pg_run.specs.pg_store.Seen.{removed_of, server_of, view_of}
-use Rattle.pg_run.specs.pg_store.Servers.{is_live_other}
-use Rattle.pg_run.specs.pg_store.Store.{is_before_clock_end}
-use Rattle.pg_run.specs.pg_store.Together.{AreTogether}
-use Rattle.pg_run.specs.pg_store.Views.{enter}
-use Rattle.pg_run.specs.pg_lookup.declared.paths.LookupError.{LookupError}
-use Rattle.pg_run.specs.pg_pieces.Done.{Done, idle}
-use Rattle.pg_run.specs.pg_pieces.Posting.{sent_to}
-use Rattle.pg_run.specs.pg_cells.Sending.{Wanted, cell_to, cells_where, is_any, is_chosen, told_as}
-use Rattle.pg_run.specs.pg_cells.Ticks.{tick}
-use Rattle.pg_run.specs.pg_intentions.Inviting.{invite_along, invite_each, invite_of, invites, loose_edge}
-use Rattle.pg_run.specs.pg_intentions.Requests.{ask_all, asks, asks_by, confirm_message, leave_message, request}
-use Rattle.pg_run.specs.pg_checks.Answer.{Answer, answer, answered, told, unless, deny}
-use Rattle.pg_run.specs.pg_checks.Checks.{in_time}
-use Rattle.pg_run.proofs.pg_calls.Checked.{behind, unless_ok}
-use Rattle.pg_run.specs.pg_calls.GivingUp.{doubt_all, enter_view, may_give_up, removal_at}
-use Rattle.pg_run.specs.pg_server.declared.input.Input.{Input}
-use Rattle.pg_run.specs.pg_server.declared.input.Input.TheVariants as input
-use Rattle.pg_run.specs.pg_server.Local.{done_of, effect, first_effect, is_heard, receive, ticked, without_sources}
-use Rattle.pg_run.proofs.theory_flood_pieces.Choices.{chosen, decided}
-use Rattle.pg_run.proofs.Event.{all_sent, asks_by_have, asks_have, cells_have, end_has, end_of, store_is}
-use Rattle.pg_run.proofs.LastWalks.{GoesLast, IsPassedOn, IsWalkOf, each_invites, first_tail}
-use Rattle.pg_run.proofs.TailsOfCalls.{answered_same}
-use Rattle.pg_run.proofs.Walks.{again_is, tick_walks}
+use Rattle.law_frame.proofs.pg_run.pg_calls.Refused.{refused_only_asks}
+use Rattle.law_frame.specs.pg_run.pg_call.declared.refusal.Refusal.TheVariants.{NotYet}
+use Rattle.law_frame.specs.pg_run.pg_base.declared.id.FileId.{FileId}
+use Rattle.law_frame.specs.pg_run.pg_edges.declared.edge.Edge.{Edge}
+use Rattle.law_frame.specs.pg_run.pg_announced.Announced.{released}
+use Rattle.law_frame.specs.pg_run.pg_entries.declared.cell.Cell.{Cell}
+use Rattle.law_frame.specs.pg_run.pg_entries.declared.cell.Cell.TheVariants as cell_kind
+use Rattle.law_frame.specs.pg_run.pg_call.declared.refusal.Refusal.TheVariants as refusal
+use Rattle.law_frame.specs.pg_run.pg_intent.declared.key.IntentKey.{IntentKey}
+use Rattle.law_frame.specs.pg_run.pg_intent.Intent.{target_of}
+use Rattle.law_frame.specs.pg_run.pg_msg.Numbers.{is_in_range}
+use Rattle.law_frame.specs.pg_run.pg_store.Births.{birth_of}
+use Rattle.law_frame.specs.pg_run.pg_pieces.Accepting.{ends_to}
+use Rattle.law_frame.specs.pg_run.pg_call.declared.call.Call.{Call}
+use Rattle.law_frame.specs.pg_run.pg_call.declared.call.Call.TheVariants as call
+use Rattle.law_frame.specs.pg_run.pg_call.declared.reply.Reply.TheVariants as reply
+use Rattle.law_frame.specs.pg_run.pg_entries.declared.entry.Entry.{Entry}
+use Rattle.law_frame.specs.pg_run.pg_intent.declared.intent.Intent.{Intent}
+use Rattle.law_frame.specs.pg_run.pg_intent.declared.intent.Intent.TheVariants as intent
+use Rattle.law_frame.specs.pg_run.pg_msg.declared.message.Ends.{Ends}
+use Rattle.law_frame.specs.pg_run.pg_msg.declared.message.Message.{Message}
+use Rattle.law_frame.specs.pg_run.pg_msg.declared.message.Message.TheVariants as message
+use Rattle.law_frame.specs.pg_run.pg_msg.declared.message.Packet.{Packet}
+use Rattle.law_frame.specs.pg_run.pg_msg.declared.message.Sent.{Sent}
+use Rattle.law_frame.specs.pg_run.pg_msg.declared.work.Work.{Work}
+use Rattle.law_frame.specs.pg_run.pg_msg.Work.{new_work}
+use Rattle.law_frame.specs.pg_run.pg_names.declared.attributes.Attributes.{Attributes}
+use Rattle.law_frame.specs.pg_run.pg_names.Names.{cell_at as entry_at, own_at}
+use Rattle.law_frame.specs.pg_run.pg_register.Flag.{is_removed}
+use Rattle.law_frame.specs.pg_run.pg_store.declared.store.Store.{Store}
+use Rattle.law_frame.specs.pg_run.pg_store.Seen.{removed_of, server_of, view_of}
+use Rattle.law_frame.specs.pg_run.pg_store.Servers.{is_live_other}
+use Rattle.law_frame.specs.pg_run.pg_store.Store.{is_before_clock_end}
+use Rattle.law_frame.specs.pg_run.pg_store.Together.{AreTogether}
+use Rattle.law_frame.specs.pg_run.pg_store.Views.{enter}
+use Rattle.law_frame.specs.pg_run.pg_lookup.declared.paths.LookupError.{LookupError}
+use Rattle.law_frame.specs.pg_run.pg_pieces.Done.{Done, idle}
+use Rattle.law_frame.specs.pg_run.pg_pieces.Posting.{sent_to}
+use Rattle.law_frame.specs.pg_run.pg_cells.Sending.{Wanted, cell_to, cells_where, is_any, is_chosen, told_as}
+use Rattle.law_frame.specs.pg_run.pg_cells.Ticks.{tick}
+use Rattle.law_frame.specs.pg_run.pg_intentions.Inviting.{invite_along, invite_each, invite_of, invites, loose_edge}
+use Rattle.law_frame.specs.pg_run.pg_intentions.Requests.{ask_all, asks, asks_by, confirm_message, leave_message, request}
+use Rattle.law_frame.specs.pg_run.pg_checks.Answer.{Answer, answer, answered, told, unless, deny}
+use Rattle.law_frame.specs.pg_run.pg_checks.Checks.{in_time}
+use Rattle.law_frame.proofs.pg_run.pg_calls.Checked.{behind, unless_ok}
+use Rattle.law_frame.specs.pg_run.pg_calls.GivingUp.{doubt_all, enter_view, may_give_up, removal_at}
+use Rattle.law_frame.specs.pg_run.pg_server.declared.input.Input.{Input}
+use Rattle.law_frame.specs.pg_run.pg_server.declared.input.Input.TheVariants as input
+use Rattle.law_frame.specs.pg_run.pg_server.Local.{done_of, effect, first_effect, is_heard, receive, ticked, without_sources}
+use Rattle.law_frame.proofs.pg_run.theory_flood_pieces.Choices.{chosen, decided}
+use Rattle.law_frame.proofs.pg_run.Event.{all_sent, asks_by_have, asks_have, cells_have, end_has, end_of, store_is}
+use Rattle.law_frame.proofs.pg_run.LastWalks.{GoesLast, IsPassedOn, IsWalkOf, each_invites, first_tail}
+use Rattle.law_frame.proofs.pg_run.TailsOfCalls.{answered_same}
+use Rattle.law_frame.proofs.pg_run.Walks.{again_is, tick_walks}
 use Rattle.law_views.proofs.Called.{call_fine, denied}
 use Rattle.law_views.proofs.Ends.{intended_seen, settled_seen}
 use Rattle.law_views.proofs.Entering.{enter_seen}

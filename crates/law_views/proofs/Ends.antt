@@ -1,29 +1,29 @@
 -- What stands behind the first effect of an event keeps what is seen of the server: the house
 -- rules, and the intentions that end and begin.
 use Rattle.std.proofs.Common.{[], ℕ, true, List, ◌∷◌, drop, length}
-use Rattle.pg_run.specs.pg_house.House.{house}
-use Rattle.pg_run.specs.pg_house.Work.{state_of}
-use Rattle.pg_run.proofs.pg_house.Keys.{rules_by}
-use Rattle.pg_run.specs.pg_intent.declared.intent.Intent.{Intent}
-use Rattle.pg_run.specs.pg_intent.declared.intent.Intent.TheVariants as intent
-use Rattle.pg_run.specs.pg_intent.declared.key.IntentKey.TheVariants as intent_key
-use Rattle.pg_run.specs.pg_intent.Intents.{aimed, begun}
-use Rattle.pg_run.specs.pg_msg.declared.work.Touched.{Touched}
-use Rattle.pg_run.specs.pg_msg.declared.work.Work.{Work}
-use Rattle.pg_run.specs.pg_store.declared.store.Store.{Store}
-use Rattle.pg_run.specs.pg_store.Store.{touch, with_names}
-use Rattle.pg_run.specs.pg_store.Wishes.{without_wish}
-use Rattle.pg_run.specs.pg_pieces.Done.{Done}
-use Rattle.pg_run.specs.pg_pieces.Making.{own_next}
-use Rattle.pg_run.specs.pg_cells.Settling.{rules, touch_all}
-use Rattle.pg_run.proofs.pg_cells.Settled.{settle_keeps}
-use Rattle.pg_run.specs.pg_intentions.Beginning.{end_others}
-use Rattle.pg_run.specs.pg_intentions.Confirms.{confirm_of}
-use Rattle.pg_run.specs.pg_intentions.Fills.{fill_of, files_to_fill, with_fill_birth}
-use Rattle.pg_run.specs.pg_intentions.Intending.{begin_intent}
-use Rattle.pg_run.specs.pg_intentions.Patches.{patch_of}
-use Rattle.pg_run.specs.pg_intentions.Seeks.{seek_target}
-use Rattle.pg_run.specs.pg_server.Local.{intended, settled}
+use Rattle.law_frame.specs.pg_run.pg_house.House.{house}
+use Rattle.law_frame.specs.pg_run.pg_house.Work.{state_of}
+use Rattle.law_frame.proofs.pg_run.pg_house.Keys.{rules_by}
+use Rattle.law_frame.specs.pg_run.pg_intent.declared.intent.Intent.{Intent}
+use Rattle.law_frame.specs.pg_run.pg_intent.declared.intent.Intent.TheVariants as intent
+use Rattle.law_frame.specs.pg_run.pg_intent.declared.key.IntentKey.TheVariants as intent_key
+use Rattle.law_frame.specs.pg_run.pg_intent.Intents.{aimed, begun}
+use Rattle.law_frame.specs.pg_run.pg_msg.declared.work.Touched.{Touched}
+use Rattle.law_frame.specs.pg_run.pg_msg.declared.work.Work.{Work}
+use Rattle.law_frame.specs.pg_run.pg_store.declared.store.Store.{Store}
+use Rattle.law_frame.specs.pg_run.pg_store.Store.{touch, with_names}
+use Rattle.law_frame.specs.pg_run.pg_store.Wishes.{without_wish}
+use Rattle.law_frame.specs.pg_run.pg_pieces.Done.{Done}
+use Rattle.law_frame.specs.pg_run.pg_pieces.Making.{own_next}
+use Rattle.law_frame.specs.pg_run.pg_cells.Settling.{rules, touch_all}
+use Rattle.law_frame.proofs.pg_run.pg_cells.Settled.{settle_keeps}
+use Rattle.law_frame.specs.pg_run.pg_intentions.Beginning.{end_others}
+use Rattle.law_frame.specs.pg_run.pg_intentions.Confirms.{confirm_of}
+use Rattle.law_frame.specs.pg_run.pg_intentions.Fills.{fill_of, files_to_fill, with_fill_birth}
+use Rattle.law_frame.specs.pg_run.pg_intentions.Intending.{begin_intent}
+use Rattle.law_frame.specs.pg_run.pg_intentions.Patches.{patch_of}
+use Rattle.law_frame.specs.pg_run.pg_intentions.Seeks.{seek_target}
+use Rattle.law_frame.specs.pg_run.pg_server.Local.{intended, settled}
 use Rattle.law_frame.proofs.Ended.{fill_born, intents_keep}
 use Rattle.law_views.proofs.Seen.{IsSeen, less_wish, seen_birth, seen_fewer, seen_flag, seen_intents, seen_names, seen_touch}
 

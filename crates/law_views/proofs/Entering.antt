@@ -3,22 +3,22 @@ use Rattle.std.proofs.Common.{[], ℕ, ◌≡◌, ◌==◌, false, List, ◌∷�
 use Rattle.std.specs.Map.{keys_of}
 use Rattle.std.specs.Option.{option_map}
 use Rattle.std.proofs.lemmas.Option.{none-some, same_Some}
-use Rattle.pg_run.specs.pg_base.declared.id.FileId.{FileId}
-use Rattle.pg_run.proofs.pg_intent.Above.{still_apart}
-use Rattle.pg_run.specs.pg_names.Names.{NamesValue, remove_server}
-use Rattle.pg_run.specs.pg_replica.declared.replica.Replica.{Replica}
-use Rattle.pg_run.specs.pg_replica.Replicas.{ByFile, replicas_unlinked}
-use Rattle.pg_run.specs.pg_store.declared.store.Store.{Store}
-use Rattle.pg_run.specs.pg_store.declared.wishes.Wish.{Wish}
-use Rattle.pg_run.specs.pg_store.Links.{is_linked, unlink}
-use Rattle.pg_run.specs.pg_store.Seen.{removed_of, server_of}
-use Rattle.pg_run.specs.pg_store.Servers.{next_target}
-use Rattle.pg_run.specs.pg_store.Store.{replica_at}
-use Rattle.pg_run.specs.pg_store.Together.{AreTogether}
-use Rattle.pg_run.specs.pg_store.Views.{cut, cut_born, cut_each, enter, listed_birth, with_removed, without_peer}
-use Rattle.pg_run.proofs.pg_store.Entered.{enter_found, enter_names}
-use Rattle.pg_run.proofs.pg_store.Wished.{enter_wished}
-use Rattle.pg_run.proofs.theory_flood_pieces.Choices.{chosen}
+use Rattle.law_frame.specs.pg_run.pg_base.declared.id.FileId.{FileId}
+use Rattle.law_frame.proofs.pg_run.pg_intent.Above.{still_apart}
+use Rattle.law_frame.specs.pg_run.pg_names.Names.{NamesValue, remove_server}
+use Rattle.law_frame.specs.pg_run.pg_replica.declared.replica.Replica.{Replica}
+use Rattle.law_frame.specs.pg_run.pg_replica.Replicas.{ByFile, replicas_unlinked}
+use Rattle.law_frame.specs.pg_run.pg_store.declared.store.Store.{Store}
+use Rattle.law_frame.specs.pg_run.pg_store.declared.wishes.Wish.{Wish}
+use Rattle.law_frame.specs.pg_run.pg_store.Links.{is_linked, unlink}
+use Rattle.law_frame.specs.pg_run.pg_store.Seen.{removed_of, server_of}
+use Rattle.law_frame.specs.pg_run.pg_store.Servers.{next_target}
+use Rattle.law_frame.specs.pg_run.pg_store.Store.{replica_at}
+use Rattle.law_frame.specs.pg_run.pg_store.Together.{AreTogether}
+use Rattle.law_frame.specs.pg_run.pg_store.Views.{cut, cut_born, cut_each, enter, listed_birth, with_removed, without_peer}
+use Rattle.law_frame.proofs.pg_run.pg_store.Entered.{enter_found, enter_names}
+use Rattle.law_frame.proofs.pg_run.pg_store.Wished.{enter_wished}
+use Rattle.law_frame.proofs.pg_run.theory_flood_pieces.Choices.{chosen}
 use Rattle.law_views.proofs.Lists.{lead_on, turned_number}
 use Rattle.law_views.proofs.Seen.{Asks, IsSeen, IsTarget, Leads}
 use Rattle.law_views.proofs.Targets.{Asked, next_of_live}

@@ -2,33 +2,33 @@
 -- its view.
 use Rattle.std.proofs.Common.{[], ℕ, ◌≡◌, Bool, false, not, List, ◌∷◌, length, refl, sym, ap, subst, All}
 use Rattle.std.proofs.lemmas.List.Elements.{All-append, All-cons, All-nil}
-use Rattle.pg_run.specs.pg_base.declared.id.FileId.{FileId}
-use Rattle.pg_run.specs.pg_base.Version.{VersionValue}
-use Rattle.pg_run.specs.pg_entries.declared.entry.Entry.{Entry}
-use Rattle.pg_run.specs.pg_intent.declared.intent.Intent.{Intent}
-use Rattle.pg_run.specs.pg_intent.Intent.{key_of}
-use Rattle.pg_run.specs.pg_intent.Intents.{stands}
-use Rattle.pg_run.specs.pg_msg.declared.message.Message.{Message}
-use Rattle.pg_run.specs.pg_msg.declared.message.Message.TheVariants as message
-use Rattle.pg_run.specs.pg_msg.declared.message.Sent.{Sent}
-use Rattle.pg_run.specs.pg_msg.declared.update.Update.TheVariants as update
-use Rattle.pg_run.specs.pg_msg.declared.work.Work.{Work}
-use Rattle.pg_run.specs.pg_msg.Work.{with_made}
-use Rattle.pg_run.specs.pg_register.declared.flag.Flag.{Flag}
-use Rattle.pg_run.specs.pg_register.declared.place.Place.{Place}
-use Rattle.pg_run.specs.pg_register.Flag.{is_removed}
-use Rattle.pg_run.specs.pg_store.declared.store.Store.{Store}
-use Rattle.pg_run.specs.pg_store.Beginning.{with_intents}
-use Rattle.pg_run.specs.pg_store.Links.{link}
-use Rattle.pg_run.specs.pg_store.Store.{take_entry, take_flag, take_place, take_version}
-use Rattle.pg_run.specs.pg_pieces.Accepting.{link_peer}
-use Rattle.pg_run.specs.pg_pieces.Done.{Done, idle}
-use Rattle.pg_run.specs.pg_pieces.Intending.{begin_intent}
-use Rattle.pg_run.specs.pg_pieces.Making.{make_flag}
-use Rattle.pg_run.specs.pg_calls.Making.{make_place}
-use Rattle.pg_run.specs.pg_pieces.Posting.{post, sent_to}
-use Rattle.pg_run.specs.pg_pieces.Taking.{take_entry_cell, take_entry_noted, take_flag_noted, take_place_noted, take_version_noted}
-use Rattle.pg_run.proofs.Still.{begun_still, entry_cell_still, entry_still, flag_still, linked_still, place_still, version_still}
+use Rattle.law_frame.specs.pg_run.pg_base.declared.id.FileId.{FileId}
+use Rattle.law_frame.specs.pg_run.pg_base.Version.{VersionValue}
+use Rattle.law_frame.specs.pg_run.pg_entries.declared.entry.Entry.{Entry}
+use Rattle.law_frame.specs.pg_run.pg_intent.declared.intent.Intent.{Intent}
+use Rattle.law_frame.specs.pg_run.pg_intent.Intent.{key_of}
+use Rattle.law_frame.specs.pg_run.pg_intent.Intents.{stands}
+use Rattle.law_frame.specs.pg_run.pg_msg.declared.message.Message.{Message}
+use Rattle.law_frame.specs.pg_run.pg_msg.declared.message.Message.TheVariants as message
+use Rattle.law_frame.specs.pg_run.pg_msg.declared.message.Sent.{Sent}
+use Rattle.law_frame.specs.pg_run.pg_msg.declared.update.Update.TheVariants as update
+use Rattle.law_frame.specs.pg_run.pg_msg.declared.work.Work.{Work}
+use Rattle.law_frame.specs.pg_run.pg_msg.Work.{with_made}
+use Rattle.law_frame.specs.pg_run.pg_register.declared.flag.Flag.{Flag}
+use Rattle.law_frame.specs.pg_run.pg_register.declared.place.Place.{Place}
+use Rattle.law_frame.specs.pg_run.pg_register.Flag.{is_removed}
+use Rattle.law_frame.specs.pg_run.pg_store.declared.store.Store.{Store}
+use Rattle.law_frame.specs.pg_run.pg_store.Beginning.{with_intents}
+use Rattle.law_frame.specs.pg_run.pg_store.Links.{link}
+use Rattle.law_frame.specs.pg_run.pg_store.Store.{take_entry, take_flag, take_place, take_version}
+use Rattle.law_frame.specs.pg_run.pg_pieces.Accepting.{link_peer}
+use Rattle.law_frame.specs.pg_run.pg_pieces.Done.{Done, idle}
+use Rattle.law_frame.specs.pg_run.pg_pieces.Intending.{begin_intent}
+use Rattle.law_frame.specs.pg_run.pg_pieces.Making.{make_flag}
+use Rattle.law_frame.specs.pg_run.pg_calls.Making.{make_place}
+use Rattle.law_frame.specs.pg_run.pg_pieces.Posting.{post, sent_to}
+use Rattle.law_frame.specs.pg_run.pg_pieces.Taking.{take_entry_cell, take_entry_noted, take_flag_noted, take_place_noted, take_version_noted}
+use Rattle.law_frame.proofs.pg_run.Still.{begun_still, entry_cell_still, entry_still, flag_still, linked_still, place_still, version_still}
 use Rattle.law_views.proofs.Seen.{IsPeer, IsSeen, seen_entry, seen_flag, seen_intents, seen_link, seen_place, seen_version}
 
 -- a walk is of a server that is not removed

@@ -1,30 +1,30 @@
 -- What comes of each message: edges to its sender, and to the origin of a walk, and messages in the
 -- server's view.
 use Rattle.std.proofs.Common.{ℕ, ◌≡◌, List, sym, subst, true, false}
-use Rattle.pg_run.specs.pg_base.declared.id.FileId.{FileId}
-use Rattle.pg_run.specs.pg_graph.Leaving.{bye_to}
-use Rattle.pg_run.specs.pg_intent.declared.key.IntentKey.TheVariants as intent_key
-use Rattle.pg_run.specs.pg_intent.Intents.{aimed, ended}
-use Rattle.pg_run.specs.pg_msg.declared.message.Message.{Message}
-use Rattle.pg_run.specs.pg_msg.declared.message.Message.TheVariants as message
-use Rattle.pg_run.specs.pg_msg.declared.summary.Greeting.TheVariants as greeting
-use Rattle.pg_run.specs.pg_msg.declared.work.Work.{Work}
-use Rattle.pg_run.specs.pg_names.Names as names
-use Rattle.pg_run.proofs.pg_names.Lookups.{update_frame}
-use Rattle.pg_run.specs.pg_store.declared.store.Store.{Store}
-use Rattle.pg_run.specs.pg_store.Beginning.{let_go}
-use Rattle.pg_run.specs.pg_store.Births.{birth_of, with_wishes}
-use Rattle.pg_run.specs.pg_store.Links.{unlink}
-use Rattle.pg_run.specs.pg_store.Servers.{next_target}
-use Rattle.pg_run.specs.pg_store.Store.{acknowledge, keep_delta, with_names}
-use Rattle.pg_run.specs.pg_store.Wishes.{aim_wish}
-use Rattle.pg_run.specs.pg_pieces.Accepting.{ends_to}
-use Rattle.pg_run.specs.pg_pieces.Done.{Done, idle, link_of}
-use Rattle.pg_run.specs.pg_pieces.Making.{own_next, raise_flag}
-use Rattle.pg_run.specs.pg_graph.Leaving.{without_leave}
-use Rattle.pg_run.specs.pg_repair.Granting.{begun_by, granted_own}
-use Rattle.pg_run.specs.pg_server.Local.{receive}
-use Rattle.pg_run.specs.pg_server.pg_transfer.Asking.{with_notes}
+use Rattle.law_frame.specs.pg_run.pg_base.declared.id.FileId.{FileId}
+use Rattle.law_frame.specs.pg_run.pg_graph.Leaving.{bye_to}
+use Rattle.law_frame.specs.pg_run.pg_intent.declared.key.IntentKey.TheVariants as intent_key
+use Rattle.law_frame.specs.pg_run.pg_intent.Intents.{aimed, ended}
+use Rattle.law_frame.specs.pg_run.pg_msg.declared.message.Message.{Message}
+use Rattle.law_frame.specs.pg_run.pg_msg.declared.message.Message.TheVariants as message
+use Rattle.law_frame.specs.pg_run.pg_msg.declared.summary.Greeting.TheVariants as greeting
+use Rattle.law_frame.specs.pg_run.pg_msg.declared.work.Work.{Work}
+use Rattle.law_frame.specs.pg_run.pg_names.Names as names
+use Rattle.law_frame.proofs.pg_run.pg_names.Lookups.{update_frame}
+use Rattle.law_frame.specs.pg_run.pg_store.declared.store.Store.{Store}
+use Rattle.law_frame.specs.pg_run.pg_store.Beginning.{let_go}
+use Rattle.law_frame.specs.pg_run.pg_store.Births.{birth_of, with_wishes}
+use Rattle.law_frame.specs.pg_run.pg_store.Links.{unlink}
+use Rattle.law_frame.specs.pg_run.pg_store.Servers.{next_target}
+use Rattle.law_frame.specs.pg_run.pg_store.Store.{acknowledge, keep_delta, with_names}
+use Rattle.law_frame.specs.pg_run.pg_store.Wishes.{aim_wish}
+use Rattle.law_frame.specs.pg_run.pg_pieces.Accepting.{ends_to}
+use Rattle.law_frame.specs.pg_run.pg_pieces.Done.{Done, idle, link_of}
+use Rattle.law_frame.specs.pg_run.pg_pieces.Making.{own_next, raise_flag}
+use Rattle.law_frame.specs.pg_run.pg_graph.Leaving.{without_leave}
+use Rattle.law_frame.specs.pg_run.pg_repair.Granting.{begun_by, granted_own}
+use Rattle.law_frame.specs.pg_run.pg_server.Local.{receive}
+use Rattle.law_frame.specs.pg_run.pg_server.pg_transfer.Asking.{with_notes}
 use Rattle.law_frame.proofs.Keeps.{Answers, Keeps}
 use Rattle.law_frame.proofs.Received.{receive_keeps}
 use Rattle.law_views.proofs.Fine.{IsFine, IsOfLive, begun_fine, entry_cell_fine, entry_fine, flag_fine, flag_made, intending, linked, place_fine, posted, stored, version_fine}

@@ -6,14 +6,14 @@ use Rattle.std.specs.Ordering.{match_ordering, nat_cmp}
 use Rattle.std.proofs.lemmas.Bool.{eqb-true, false≢true, ne_eqb}
 use Rattle.std.proofs.lemmas.List.Elements.{All-cons, All-head, All-nil, All-tail}
 use Rattle.std.proofs.lemmas.Option.{same_Some}
-use Rattle.pg_run.specs.pg_edges.declared.edge.Edge.{Edge}
-use Rattle.pg_run.specs.pg_edges.declared.key.Key.{Key}
-use Rattle.pg_run.specs.pg_edges.Edges.{acked, is_listed, linked, makes_edge, new_edge, peers, put_edge, retired, tag_at, take_off, taken_off, touched, unlinked, without_edge}
-use Rattle.pg_run.proofs.pg_edges.Edits.{peers-retired, peers-touched}
-use Rattle.pg_run.proofs.pg_intent.Above.{still_apart}
-use Rattle.pg_run.specs.pg_register.Flag.{is_removed}
-use Rattle.pg_run.specs.pg_replica.Replica.{without_keys}
-use Rattle.pg_run.proofs.theory_flood_pieces.Choices.{chosen}
+use Rattle.law_frame.specs.pg_run.pg_edges.declared.edge.Edge.{Edge}
+use Rattle.law_frame.specs.pg_run.pg_edges.declared.key.Key.{Key}
+use Rattle.law_frame.specs.pg_run.pg_edges.Edges.{acked, is_listed, linked, makes_edge, new_edge, peers, put_edge, retired, tag_at, take_off, taken_off, touched, unlinked, without_edge}
+use Rattle.law_frame.proofs.pg_run.pg_edges.Edits.{peers-retired, peers-touched}
+use Rattle.law_frame.proofs.pg_run.pg_intent.Above.{still_apart}
+use Rattle.law_frame.specs.pg_run.pg_register.Flag.{is_removed}
+use Rattle.law_frame.specs.pg_run.pg_replica.Replica.{without_keys}
+use Rattle.law_frame.proofs.pg_run.theory_flood_pieces.Choices.{chosen}
 
 -- ---- edges
 

@@ -5,21 +5,21 @@ use Rattle.std.specs.Option.{option_map, unwrap_or}
 use Rattle.std.proofs.lemmas.Bool.{and_parts, le-leb, leb-true, ne_eqb, not-true}
 use Rattle.std.proofs.lemmas.List.Elements.{All-head, All-tail}
 use Rattle.std.proofs.lemmas.Option.{none-some, same_Some}
-use Rattle.pg_run.specs.pg_base.declared.id.FileId.{FileId}
-use Rattle.pg_run.specs.pg_entries.declared.entry.Entry.{Entry}
-use Rattle.pg_run.specs.pg_intent.Target.{IsLiveOther}
-use Rattle.pg_run.specs.pg_intent.Target.{next_target as next_of}
-use Rattle.pg_run.proofs.pg_intent.Above.{next_lives, not_equal}
-use Rattle.pg_run.specs.pg_names.Names.{cell_at}
-use Rattle.pg_run.specs.pg_register.declared.flag.Flag.{Flag}
-use Rattle.pg_run.specs.pg_register.Flag.{first_other_gold, is_live, is_removed}
-use Rattle.pg_run.specs.pg_register.Flag.{is_live_other as is_live_other_flag}
-use Rattle.pg_run.specs.pg_store.declared.store.Store.{Store}
-use Rattle.pg_run.specs.pg_store.Seen.{removed_of, server_of}
-use Rattle.pg_run.specs.pg_store.Servers.{next_target}
-use Rattle.pg_run.specs.pg_store.Servers.{is_live_other as is_live_other_at}
-use Rattle.pg_run.specs.pg_lookup.declared.paths.Found.{Found}
-use Rattle.pg_run.specs.pg_checks.Asking.{cell_in, dir_by, gold_of, holder}
+use Rattle.law_frame.specs.pg_run.pg_base.declared.id.FileId.{FileId}
+use Rattle.law_frame.specs.pg_run.pg_entries.declared.entry.Entry.{Entry}
+use Rattle.law_frame.specs.pg_run.pg_intent.Target.{IsLiveOther}
+use Rattle.law_frame.specs.pg_run.pg_intent.Target.{next_target as next_of}
+use Rattle.law_frame.proofs.pg_run.pg_intent.Above.{next_lives, not_equal}
+use Rattle.law_frame.specs.pg_run.pg_names.Names.{cell_at}
+use Rattle.law_frame.specs.pg_run.pg_register.declared.flag.Flag.{Flag}
+use Rattle.law_frame.specs.pg_run.pg_register.Flag.{first_other_gold, is_live, is_removed}
+use Rattle.law_frame.specs.pg_run.pg_register.Flag.{is_live_other as is_live_other_flag}
+use Rattle.law_frame.specs.pg_run.pg_store.declared.store.Store.{Store}
+use Rattle.law_frame.specs.pg_run.pg_store.Seen.{removed_of, server_of}
+use Rattle.law_frame.specs.pg_run.pg_store.Servers.{next_target}
+use Rattle.law_frame.specs.pg_run.pg_store.Servers.{is_live_other as is_live_other_at}
+use Rattle.law_frame.specs.pg_run.pg_lookup.declared.paths.Found.{Found}
+use Rattle.law_frame.specs.pg_run.pg_checks.Asking.{cell_in, dir_by, gold_of, holder}
 use Rattle.law_views.proofs.Seen.{IsSeen, IsTarget}
 use Rattle.law_views.specs.Premises.{FlagsAreOf, IsFlagOf}
 

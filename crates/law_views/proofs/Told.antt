@@ -2,17 +2,17 @@
 use Rattle.std.proofs.Common.{[], ℕ, ◌≡◌, true, List, ◌∷◌, ◌++◌, length, take, Option, None, Some, inl, inr, refl, sym, ap, subst, ◌∙◌}
 use Rattle.std.proofs.lemmas.List.{append-nil, append_assoc}
 use Rattle.std.proofs.lemmas.List.Elements.{All-contains}
-use Rattle.pg_run.specs.pg_event.declared.event.Event.{Event}
-use Rattle.pg_run.proofs.theory_flood.Flood.{here}
-use Rattle.pg_run.specs.pg_intent.Target.{IsLiveOther}
-use Rattle.pg_run.specs.pg_register.Flag.{is_removed}
-use Rattle.pg_run.specs.pg_store.declared.store.Store.{Store}
-use Rattle.pg_run.specs.pg_store.Seen.{removed_of, server_of}
-use Rattle.pg_run.specs.pg_server.Local.{effect}
-use Rattle.pg_run.specs.Journal.{mail, removals}
-use Rattle.pg_run.specs.Run.{Step, Taking, World, next, run, start, taking_in}
-use Rattle.pg_run.specs.Views.{MessagesAreOfViews, MessagesAreSentInView, ViewsArePrefixes, ViewsGrow}
-use Rattle.pg_run.proofs.Frame.{IsFramed, acts_is, framed, run_more}
+use Rattle.law_frame.specs.pg_run.pg_event.declared.event.Event.{Event}
+use Rattle.law_frame.proofs.pg_run.theory_flood.Flood.{here}
+use Rattle.law_frame.specs.pg_run.pg_intent.Target.{IsLiveOther}
+use Rattle.law_frame.specs.pg_run.pg_register.Flag.{is_removed}
+use Rattle.law_frame.specs.pg_run.pg_store.declared.store.Store.{Store}
+use Rattle.law_frame.specs.pg_run.pg_store.Seen.{removed_of, server_of}
+use Rattle.law_frame.specs.pg_run.pg_server.Local.{effect}
+use Rattle.law_frame.specs.pg_run.Journal.{mail, removals}
+use Rattle.law_frame.specs.pg_run.Run.{Step, Taking, World, next, run, start, taking_in}
+use Rattle.law_frame.specs.pg_run.Views.{MessagesAreOfViews, MessagesAreSentInView, ViewsArePrefixes, ViewsGrow}
+use Rattle.law_frame.proofs.pg_run.Frame.{IsFramed, acts_is, framed, run_more}
 use Rattle.law_views.proofs.Fine.{IsOfLive, IsSent}
 use Rattle.law_views.proofs.Lists.{one_leads, stays_removed}
 use Rattle.law_views.proofs.Seen.{IsPeer}

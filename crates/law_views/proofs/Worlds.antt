@@ -5,30 +5,30 @@ use Rattle.std.proofs.lemmas.Bool.{and_parts, eqb-true, ne_eqb}
 use Rattle.std.proofs.lemmas.List.{append-nil, length-append, take-append-le}
 use Rattle.std.proofs.lemmas.List.Elements.{All-append, All-contains, All-nil, All-weaker}
 use Rattle.std.proofs.lemmas.Option.{none-some, slice_get_within}
-use Rattle.pg_run.specs.pg_call.declared.call.Call.TheVariants as call
-use Rattle.pg_run.specs.pg_edges.Edges.{peers}
-use Rattle.pg_run.specs.pg_event.declared.entry.VoidCause.{VoidCause}
-use Rattle.pg_run.specs.pg_event.declared.event.Event.{Event}
-use Rattle.pg_run.specs.theory_flood.World.{after}
-use Rattle.pg_run.proofs.theory_flood.Flood.{after_itself, here}
-use Rattle.pg_run.proofs.pg_intent.Above.{still_apart}
-use Rattle.pg_run.specs.pg_msg.declared.message.Packet.{Packet}
-use Rattle.pg_run.specs.pg_msg.declared.message.Sent.{Sent}
-use Rattle.pg_run.specs.pg_msg.Numbers.{is_in_range}
-use Rattle.pg_run.proofs.Bags.{All-every}
-use Rattle.pg_run.specs.pg_register.Flag.{is_removed}
-use Rattle.pg_run.specs.pg_store.declared.store.Store.{Store}
-use Rattle.pg_run.specs.pg_store.Seen.{removed_of, view_of}
-use Rattle.pg_run.specs.pg_store.Servers.{is_live_other}
-use Rattle.pg_run.specs.pg_store.Store.{is_before_clock_end, new_store}
-use Rattle.pg_run.specs.pg_calls.GivingUp.{is_next_view, may_give_up}
-use Rattle.pg_run.specs.pg_server.declared.input.Input.{Input}
-use Rattle.pg_run.specs.pg_server.declared.input.Input.TheVariants as input
-use Rattle.pg_run.specs.pg_server.Local.{effect, is_heard}
-use Rattle.pg_run.specs.Journal.{mail, removals, removed_in}
-use Rattle.pg_run.specs.Run.{Taking, World, effect_step, idle_entry, idle_step, is_removal, run, start, taking_in, world_after}
-use Rattle.pg_run.proofs.Frame.{Acts, HasCome, WasDue, holds_in_runs, no_server_comes}
-use Rattle.pg_run.proofs.Removals.{none_removed, removals_grow}
+use Rattle.law_frame.specs.pg_run.pg_call.declared.call.Call.TheVariants as call
+use Rattle.law_frame.specs.pg_run.pg_edges.Edges.{peers}
+use Rattle.law_frame.specs.pg_run.pg_event.declared.entry.VoidCause.{VoidCause}
+use Rattle.law_frame.specs.pg_run.pg_event.declared.event.Event.{Event}
+use Rattle.law_frame.specs.pg_run.theory_flood.World.{after}
+use Rattle.law_frame.proofs.pg_run.theory_flood.Flood.{after_itself, here}
+use Rattle.law_frame.proofs.pg_run.pg_intent.Above.{still_apart}
+use Rattle.law_frame.specs.pg_run.pg_msg.declared.message.Packet.{Packet}
+use Rattle.law_frame.specs.pg_run.pg_msg.declared.message.Sent.{Sent}
+use Rattle.law_frame.specs.pg_run.pg_msg.Numbers.{is_in_range}
+use Rattle.law_frame.proofs.pg_run.Bags.{All-every}
+use Rattle.law_frame.specs.pg_run.pg_register.Flag.{is_removed}
+use Rattle.law_frame.specs.pg_run.pg_store.declared.store.Store.{Store}
+use Rattle.law_frame.specs.pg_run.pg_store.Seen.{removed_of, view_of}
+use Rattle.law_frame.specs.pg_run.pg_store.Servers.{is_live_other}
+use Rattle.law_frame.specs.pg_run.pg_store.Store.{is_before_clock_end, new_store}
+use Rattle.law_frame.specs.pg_run.pg_calls.GivingUp.{is_next_view, may_give_up}
+use Rattle.law_frame.specs.pg_run.pg_server.declared.input.Input.{Input}
+use Rattle.law_frame.specs.pg_run.pg_server.declared.input.Input.TheVariants as input
+use Rattle.law_frame.specs.pg_run.pg_server.Local.{effect, is_heard}
+use Rattle.law_frame.specs.pg_run.Journal.{mail, removals, removed_in}
+use Rattle.law_frame.specs.pg_run.Run.{Taking, World, effect_step, idle_entry, idle_step, is_removal, run, start, taking_in, world_after}
+use Rattle.law_frame.proofs.pg_run.Frame.{Acts, HasCome, WasDue, holds_in_runs, no_server_comes}
+use Rattle.law_frame.proofs.pg_run.Removals.{none_removed, removals_grow}
 use Rattle.law_views.proofs.Effects.{Gives, HearsLive, Leaves, effect_leaves}
 use Rattle.law_views.proofs.Fine.{IsOfLive, IsSent}
 use Rattle.law_views.proofs.Lists.{same_number, take_one}

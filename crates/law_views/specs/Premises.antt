@@ -1,12 +1,12 @@
 -- What the laws of views stand on.
 use Rattle.std.specs.Prelude.{ℕ, ◌≡◌, ◌≤◌, All, List, Some}
-use Rattle.pg_run.specs.pg_base.declared.id.FileId.{FileId}
-use Rattle.pg_run.specs.pg_entries.declared.entry.Entry.{Entry}
-use Rattle.pg_run.specs.pg_event.declared.event.Event.{Event}
-use Rattle.pg_run.specs.pg_names.Names.{NamesValue, cell_at}
-use Rattle.pg_run.specs.theory_flood_pieces.Whole.{IsWhole}
-use Rattle.pg_run.specs.pg_register.declared.flag.Flag.{Flag}
-use Rattle.pg_run.specs.Laws.{AtEach, names_after, store_after}
+use Rattle.law_frame.specs.pg_run.pg_base.declared.id.FileId.{FileId}
+use Rattle.law_frame.specs.pg_run.pg_entries.declared.entry.Entry.{Entry}
+use Rattle.law_frame.specs.pg_run.pg_event.declared.event.Event.{Event}
+use Rattle.law_frame.specs.pg_run.pg_names.Names.{NamesValue, cell_at}
+use Rattle.law_frame.specs.pg_run.theory_flood_pieces.Whole.{IsWhole}
+use Rattle.law_frame.specs.pg_run.pg_register.declared.flag.Flag.{Flag}
+use Rattle.law_frame.specs.pg_run.Laws.{AtEach, names_after, store_after}
 
 -- a flag is one of the run's servers
 pub record IsFlagOf (servers : ℕ) (flag : Flag) : Type 0 where

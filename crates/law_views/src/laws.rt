@@ -2,7 +2,7 @@
 //! nothing.
 
 ghost use Rattle.std.specs.Prelude.{ℕ};
-ghost use Rattle.pg_run.specs.Views.{MessagesAreOfViews, MessagesAreSentInView, ViewsArePrefixes, ViewsGrow};
+ghost use Rattle.law_frame.specs.pg_run.Views.{MessagesAreOfViews, MessagesAreSentInView, ViewsArePrefixes, ViewsGrow};
 ghost use Rattle.law_views.specs.Premises.{StandOn};
 
 /// After every event each server knows the first so many removals, in their order, and its own is

@@ -2,35 +2,35 @@
 use Rattle.std.proofs.Common.{ℕ, ◌≡◌, ◌+◌, Bool, true, false, cond, List, [], length, None, Some, refl, sym, ap, subst, ◌∙◌, All}
 use Rattle.std.specs.List.{flat_map}
 use Rattle.std.proofs.lemmas.List.Elements.{All-append, All-nil, All-push, All-weaker}
-use Rattle.law_contents.specs.pg_base.declared.head.Head.{Head}
-use Rattle.law_contents.specs.pg_base.declared.id.FileId.{FileId}
-use Rattle.law_contents.specs.pg_base.declared.stamp.Stamp.{Stamp}
-use Rattle.law_contents.specs.pg_delta.Taking.{delta_to}
-use Rattle.law_contents.specs.pg_msg.declared.message.Delta.{Delta}
-use Rattle.law_contents.specs.pg_msg.declared.message.Ends.{Ends}
-use Rattle.law_contents.specs.pg_msg.declared.message.Message.TheVariants as message
-use Rattle.law_contents.specs.pg_msg.declared.message.Piece.{Piece}
-use Rattle.law_contents.specs.pg_msg.declared.message.Sent.{Sent}
-use Rattle.law_contents.specs.pg_msg.declared.message.Wanted.{Wanted}
-use Rattle.law_contents.specs.pg_msg.declared.work.Work.{Work}
-use Rattle.law_contents.specs.pg_msg.Ends.{back}
-use Rattle.law_contents.specs.pg_msg.Work.{new_work}
-use Rattle.law_contents.specs.pg_run.Asking.{is_version, wanted_by}
-use Rattle.law_contents.specs.pg_store.declared.store.Store.{Store}
-use Rattle.law_contents.specs.pg_store.Store.{keep_delta, replica_of}
-use Rattle.law_contents.specs.pg_pieces.declared.accepting.EdgeUse.{EdgeUse}
-use Rattle.law_contents.specs.pg_pieces.declared.accepting.EdgeUse.TheVariants as manner
-use Rattle.law_contents.specs.pg_pieces.Accepting.{accept}
-use Rattle.law_contents.specs.pg_pieces.Done.{Done}
-use Rattle.law_contents.specs.pg_pieces.Posting.{sent_to}
-use Rattle.law_contents.specs.pg_server.pg_transfer.Asking.{acknowledged, ask, heard_by, listed, noted, offset_of, put_off}
-use Rattle.law_contents.specs.pg_server.pg_transfer.Delta.{delta}
-use Rattle.law_contents.specs.pg_server.pg_transfer.Harbinger.{harbinger}
-use Rattle.law_contents.specs.pg_server.pg_transfer.Piece.{piece, whole, without_noted}
-use Rattle.law_contents.specs.pg_server.pg_transfer.Taking.{taken_for}
-use Rattle.law_contents.specs.theory_bodies.Asked.{Asking}
-use Rattle.law_contents.proofs.pg_run.Sends.{accept_fine}
-use Rattle.law_contents.proofs.pg_run.TransferWays.{beside_goes, changed_goes, delta_goes, harbinger_goes, heard_goes, others_hear, piece_goes, pieced_goes}
+use Rattle.pg_run.specs.pg_base.declared.head.Head.{Head}
+use Rattle.pg_run.specs.pg_base.declared.id.FileId.{FileId}
+use Rattle.pg_run.specs.pg_base.declared.stamp.Stamp.{Stamp}
+use Rattle.pg_run.specs.pg_delta.Taking.{delta_to}
+use Rattle.pg_run.specs.pg_msg.declared.message.Delta.{Delta}
+use Rattle.pg_run.specs.pg_msg.declared.message.Ends.{Ends}
+use Rattle.pg_run.specs.pg_msg.declared.message.Message.TheVariants as message
+use Rattle.pg_run.specs.pg_msg.declared.message.Piece.{Piece}
+use Rattle.pg_run.specs.pg_msg.declared.message.Sent.{Sent}
+use Rattle.pg_run.specs.pg_msg.declared.message.Wanted.{Wanted}
+use Rattle.pg_run.specs.pg_msg.declared.work.Work.{Work}
+use Rattle.pg_run.specs.pg_msg.Ends.{back}
+use Rattle.pg_run.specs.pg_msg.Work.{new_work}
+use Rattle.pg_run.specs.Asking.{is_version, wanted_by}
+use Rattle.pg_run.specs.pg_store.declared.store.Store.{Store}
+use Rattle.pg_run.specs.pg_store.Store.{keep_delta, replica_of}
+use Rattle.pg_run.specs.pg_pieces.declared.accepting.EdgeUse.{EdgeUse}
+use Rattle.pg_run.specs.pg_pieces.declared.accepting.EdgeUse.TheVariants as manner
+use Rattle.pg_run.specs.pg_pieces.Accepting.{accept}
+use Rattle.pg_run.specs.pg_pieces.Done.{Done}
+use Rattle.pg_run.specs.pg_pieces.Posting.{sent_to}
+use Rattle.pg_run.specs.pg_server.pg_transfer.Asking.{acknowledged, ask, heard_by, listed, noted, offset_of, put_off}
+use Rattle.pg_run.specs.pg_server.pg_transfer.Delta.{delta}
+use Rattle.pg_run.specs.pg_server.pg_transfer.Harbinger.{harbinger}
+use Rattle.pg_run.specs.pg_server.pg_transfer.Piece.{piece, whole, without_noted}
+use Rattle.pg_run.specs.pg_server.pg_transfer.Taking.{taken_for}
+use Rattle.pg_run.specs.theory_bodies.Asked.{Asking}
+use Rattle.pg_run.proofs.Sends.{accept_fine}
+use Rattle.pg_run.proofs.TransferWays.{beside_goes, changed_goes, delta_goes, harbinger_goes, heard_goes, others_hear, piece_goes, pieced_goes}
 use Rattle.law_contents.proofs.AsksBodies.{acked_other, taken_other}
 use Rattle.law_contents.proofs.Wantless.{AreOther, Other, accept_other, other_none}
 

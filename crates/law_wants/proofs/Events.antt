@@ -2,25 +2,25 @@
 use Rattle.std.proofs.Common.{ℕ, ◌≡◌, Bool, true, false, cond, List, [], Option, None, Some, refl, sym, subst, ◌∙◌, All}
 use Rattle.std.specs.Prelude.{Contains}
 use Rattle.std.proofs.lemmas.List.Elements.{All-contains, All-nil}
-use Rattle.law_contents.specs.pg_base.declared.id.FileId.{FileId}
-use Rattle.law_contents.specs.pg_base.declared.stamp.Stamp.{Stamp}
-use Rattle.law_contents.specs.pg_event.declared.event.Event.{Event}
-use Rattle.law_contents.specs.pg_msg.declared.message.Message.{Message}
-use Rattle.law_contents.specs.pg_msg.declared.message.Message.TheVariants as message
-use Rattle.law_contents.specs.pg_msg.declared.message.Sent.{Sent}
-use Rattle.law_contents.specs.pg_msg.Work.{new_work}
-use Rattle.law_contents.specs.pg_run.Asking.{wanted_by}
-use Rattle.law_contents.specs.pg_run.Run.{Step, Taking, next, run, taking_in}
-use Rattle.law_contents.specs.pg_store.declared.store.Store.{Store}
-use Rattle.law_contents.specs.pg_pieces.Done.{idle}
-use Rattle.law_contents.specs.pg_cells.Sending.{is_chosen}
-use Rattle.law_contents.specs.pg_server.declared.input.Input.{Input}
-use Rattle.law_contents.specs.pg_server.declared.input.Input.TheVariants as input
-use Rattle.law_contents.specs.pg_server.Local.{effect, first_effect, is_heard, receive}
-use Rattle.law_contents.specs.theory_bodies.Asked.{Asking}
-use Rattle.law_contents.proofs.pg_run.Event.{all_sent, asks_sent, cells_sent, end_of}
-use Rattle.law_contents.proofs.pg_run.Frame.{IsFramed, framed}
-use Rattle.law_contents.proofs.pg_run.LastWalks.{lasts_have}
+use Rattle.pg_run.specs.pg_base.declared.id.FileId.{FileId}
+use Rattle.pg_run.specs.pg_base.declared.stamp.Stamp.{Stamp}
+use Rattle.pg_run.specs.pg_event.declared.event.Event.{Event}
+use Rattle.pg_run.specs.pg_msg.declared.message.Message.{Message}
+use Rattle.pg_run.specs.pg_msg.declared.message.Message.TheVariants as message
+use Rattle.pg_run.specs.pg_msg.declared.message.Sent.{Sent}
+use Rattle.pg_run.specs.pg_msg.Work.{new_work}
+use Rattle.pg_run.specs.Asking.{wanted_by}
+use Rattle.pg_run.specs.Run.{Step, Taking, next, run, taking_in}
+use Rattle.pg_run.specs.pg_store.declared.store.Store.{Store}
+use Rattle.pg_run.specs.pg_pieces.Done.{idle}
+use Rattle.pg_run.specs.pg_cells.Sending.{is_chosen}
+use Rattle.pg_run.specs.pg_server.declared.input.Input.{Input}
+use Rattle.pg_run.specs.pg_server.declared.input.Input.TheVariants as input
+use Rattle.pg_run.specs.pg_server.Local.{effect, first_effect, is_heard, receive}
+use Rattle.pg_run.specs.theory_bodies.Asked.{Asking}
+use Rattle.pg_run.proofs.Event.{all_sent, asks_sent, cells_sent, end_of}
+use Rattle.pg_run.proofs.Frame.{IsFramed, framed}
+use Rattle.pg_run.proofs.LastWalks.{lasts_have}
 use Rattle.law_contents.proofs.AsksInputs.{answers_other}
 use Rattle.law_contents.proofs.GoesMessages.{is_of_bodies}
 use Rattle.law_contents.proofs.Wantless.{Other, begun_other, call_other, cells_other, received_other, tick_other}

@@ -1,12 +1,12 @@
 -- Whom a server asks for a version in one event.
 use Rattle.std.specs.Prelude.{ℕ, ◌≡◌, Contains, List, Some}
-use Rattle.law_contents.specs.pg_base.declared.id.FileId.{FileId}
-use Rattle.law_contents.specs.pg_base.declared.stamp.Stamp.{Stamp}
-use Rattle.law_contents.specs.pg_event.declared.event.Event.{Event}
-use Rattle.law_contents.specs.pg_msg.declared.message.Sent.{Sent}
-use Rattle.law_contents.specs.pg_run.Asking.{wanted_by}
-use Rattle.law_contents.specs.pg_run.Run.{next, run}
-use Rattle.law_contents.specs.theory_bodies.Asked.{Asking}
+use Rattle.pg_run.specs.pg_base.declared.id.FileId.{FileId}
+use Rattle.pg_run.specs.pg_base.declared.stamp.Stamp.{Stamp}
+use Rattle.pg_run.specs.pg_event.declared.event.Event.{Event}
+use Rattle.pg_run.specs.pg_msg.declared.message.Sent.{Sent}
+use Rattle.pg_run.specs.Asking.{wanted_by}
+use Rattle.pg_run.specs.Run.{next, run}
+use Rattle.pg_run.specs.theory_bodies.Asked.{Asking}
 
 -- of two messages of one entry that are Wants for one version, both are to one server
 abbrev pub AnEventAsksOne : ℕ → Type 0

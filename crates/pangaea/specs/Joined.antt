@@ -50,6 +50,11 @@ use Rattle.pg_run.specs.Views.{MessagesAreOfViews, MessagesAreSentInView, ViewsA
 use Rattle.law_ticks.specs.Given.{TidinessIsGiven}
 use Rattle.law_views.specs.Premises as views
 
+-- that all that is carried is known, of places and of flags together, stands on what is said of each
+abbrev pub CarriedStandsOn : ℕ → Type 0
+CarriedStandsOn servers = IntentionsAreInOrder servers → AllIsNamed servers
+    → PlacesWereMade servers → FlagsAreKnown servers → CarriedIsKnown servers
+
 -- of names, along every run
 pub record OrderIsCited (servers : ℕ) : Type 0 where
   pub order : HouseIsInOrder servers
@@ -160,8 +165,7 @@ pub record NamesAreCited (servers : ℕ) : Type 0 where
   pub made : IntentionsAreInOrder servers → PlacesWereMade servers
   pub own : IntentionsAreInOrder servers → PlacesHaveOwnStamps servers
   pub past : IntentionsAreInOrder servers → PlacesMadeArePast servers
-  pub known : IntentionsAreInOrder servers → AllIsNamed servers → PlacesWereMade servers
-      → FlagsAreKnown servers → CarriedIsKnown servers
+  pub known : CarriedStandsOn servers
   pub merge : NamesStandOn servers → NamesMerge servers
   pub determined : NamesStandOn servers → NamesAreDetermined servers
   pub justified : NamesStandOn servers → EdgesAreKept servers → ReturnsAreJustified servers

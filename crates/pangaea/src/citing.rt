@@ -18,13 +18,8 @@
 //! line in `proofs/Carried`.
 
 ghost use Rattle.std.specs.Prelude.{ℕ};
-ghost use Rattle.law_repair.specs.law_golds.Laws.{FlagsAreKnown};
-ghost use Rattle.law_intents.specs.law_order.Laws.{AllIsNamed};
-ghost use Rattle.law_repair.specs.law_places.Laws.{PlacesWereMade};
-ghost use Rattle.pg_run.specs.Intending.{IntentionsAreInOrder};
-ghost use Rattle.pg_run.specs.Known.{CarriedIsKnown};
-ghost use Rattle.pangaea.specs.Joined.{AreCited};
 ghost use Rattle.pangaea.specs.AllLaws.{LawsOfRuns};
+ghost use Rattle.pangaea.specs.Joined.{AreCited, CarriedStandsOn};
 
 use law_acks::{runs_grow, runs_keep_edges};
 use law_bodies::{bodies_answer_wants, first_harbingers_ask};
@@ -71,8 +66,7 @@ use pg_run::{quiet_is_told, takes_are_what_came};
 /// All that servers have and messages bring of places and flags was made, or was there at the
 /// start: of places and of flags together, where it holds of each.
 fn what_is_carried_is_known()
-    ensures { (servers : ℕ) → IntentionsAreInOrder servers → AllIsNamed servers
-        → PlacesWereMade servers → FlagsAreKnown servers → CarriedIsKnown servers }
+    ensures { (servers : ℕ) → CarriedStandsOn servers }
 {}
 
 /// The laws of all runs, each with what it stands on.

@@ -1,19 +1,14 @@
 //! What the program promises.
 
 ghost use Rattle.std.specs.Prelude.{◌≡◌, ◌≢◌, ◌<◌, ◌≤◌, ◌^◌, ◌↔◌, ◌⊎◌, ℕ, List, IfSome, Some, length, map};
-ghost use Rattle.std.specs.Io.KnownBytes.{IsAtEnd};
 ghost use Rattle.pg_program.specs.Ending as ending;
 ghost use Rattle.pg_program.specs.Outside as outside;
 ghost use Rattle.pangaea.specs.Promises as laws;
 ghost use Rattle.pg_program.specs.Written as written;
-ghost use Rattle.pg_call.specs.declared.fault.Fault.{Fault};
 ghost use Rattle.pg_command.specs.Words as wording;
 ghost use Rattle.pg_command.specs.declared.command.Command.{Command};
 ghost use Rattle.pg_command.specs.declared.command.Help.{Help};
 ghost use Rattle.pg_command.specs.declared.command.Numbers.{Numbers};
-ghost use Rattle.pg_io.specs.Causes.{Rose};
-ghost use Rattle.pg_meter.specs.Note.{reading};
-ghost use Rattle.pg_sched.specs.Schedule.{IsFirstBad};
 
 use crate::citing::laws_of_runs;
 use law_shows::shows_are_states;
@@ -41,15 +36,16 @@ pub fn run<S: Source, K: Sink, N: Net, D: Disk, C: Clock>(
     // them a line of a journal; so it is read again. Of made schedules their text, and what came of
     // their run.
     ensures done { (command : Command) → wording.Asks words.now command → result ≡ Status.Done
-        → written.Writes command (map (λ m. reading (counts m) (counted m)) meters.items)
+        → written.Writes command (map (λ m. written.reading (counts m) (counted m)) meters.items)
         (S.remaining source.old) (K.contents sink.old) (K.contents sink.new) }
     ensures whole { wording.AsksForReplay words.now → result ≡ Status.Done
-        → IsAtEnd (S.remaining source.new) }
+        → ending.IsAtEnd (S.remaining source.new) }
     ensures whole_first { wording.AsksForReplay words.now → result ≡ Status.WriteFault
-        → IsAtEnd (S.remaining source.new) }
+        → ending.IsAtEnd (S.remaining source.new) }
     ensures prefix { (command : Command) → wording.Asks words.now command
         → result ≡ Status.WriteFault
-        → written.WritesFront command (map (λ m. reading (counts m) (counted m)) meters.items)
+        → written.WritesFront command
+        (map (λ m. written.reading (counts m) (counted m)) meters.items)
         (S.remaining source.old) (K.contents sink.old) (K.contents sink.new) }
     ensures unread { ¬ (wording.AsksForReplay words.now) → source.new ≡ source.old }
     ensures untouched { ¬ (wording.AsksForCall words.now) → result ≢ Status.Done
@@ -203,12 +199,15 @@ pub fn run<S: Source, K: Sink, N: Net, D: Disk, C: Clock>(
 
     // When it ends how.
     ensures usage { (n : ℕ) → result ≡ Status.Usage n ↔ wording.IsFault words.now n }
-    ensures read { result ≡ Status.ReadFault → Rose (S.faults source.old) (S.faults source.new) }
-    ensures write { result ≡ Status.WriteFault → Rose (K.faults sink.old) (K.faults sink.new) }
-    ensures end { wording.AsksForNode words.now → outside.IsEnd (N.faults net.old) (N.faults net.new)
+    ensures read { result ≡ Status.ReadFault
+        → ending.Rose (S.faults source.old) (S.faults source.new) }
+    ensures write { result ≡ Status.WriteFault
+        → ending.Rose (K.faults sink.old) (K.faults sink.new) }
+    ensures end { wording.AsksForNode words.now
+        → outside.IsEnd (N.faults net.old) (N.faults net.new)
         (D.faults disk.old) (D.faults disk.new) result }
-    ensures net { result ≡ Status.NetFault → Rose (N.faults net.old) (N.faults net.new) }
-    ensures disk { result ≡ Status.DiskFault → Rose (D.faults disk.old) (D.faults disk.new) }
+    ensures net { result ≡ Status.NetFault → ending.Rose (N.faults net.old) (N.faults net.new) }
+    ensures disk { result ≡ Status.DiskFault → ending.Rose (D.faults disk.old) (D.faults disk.new) }
     // A node ends so by the log of its name, exactly where this is bad, or good and another's.
     ensures log { (command : Command) → wording.Asks words.now command → D.tells
         → outside.Answers command (N.faults net.old) (N.faults net.new) (D.faults disk.old)
@@ -224,29 +223,30 @@ pub fn run<S: Source, K: Sink, N: Net, D: Disk, C: Clock>(
     ensures short { (input : List ℕ) → wording.AsksForReplay words.now
         → S.remaining source.old ≡ Some input
         → written.IsTooLong input
-        → ¬ (Rose (S.faults source.old) (S.faults source.new))
+        → ¬ (ending.Rose (S.faults source.old) (S.faults source.new))
         → ending.EndsOnly result Status.InputLong }
-    ensures bad { (n : ℕ) (f : Fault) → result ≡ Status.BadLine n f
+    ensures bad { (n : ℕ) (f : ending.Fault) → result ≡ Status.BadLine n f
         → ending.FirstBadIs (S.remaining source.old) n f }
-    ensures whole_bad { (n : ℕ) (f : Fault) → result ≡ Status.BadLine n f
-        → IsAtEnd (S.remaining source.new) }
-    ensures first_bad { (input : List ℕ) (n : ℕ) (f : Fault) → wording.AsksForReplay words.now
+    ensures whole_bad { (n : ℕ) (f : ending.Fault) → result ≡ Status.BadLine n f
+        → ending.IsAtEnd (S.remaining source.new) }
+    ensures first_bad { (input : List ℕ) (n : ℕ) (f : ending.Fault)
+        → wording.AsksForReplay words.now
         → S.remaining source.old ≡ Some input → length input ≤ written.most_input
-        → IsFirstBad input n f
-        → ¬ (Rose (S.faults source.old) (S.faults source.new))
+        → ending.IsFirstBad input n f
+        → ¬ (ending.Rose (S.faults source.old) (S.faults source.new))
         → ending.EndsOnly result (Status.BadLine n f) }
     ensures complete { wording.AsksForReplay words.now
         → written.IsGoodInput (S.remaining source.old)
-        → ¬ (Rose (S.faults source.old) (S.faults source.new))
-        → ¬ (Rose (K.faults sink.old) (K.faults sink.new))
+        → ¬ (ending.Rose (S.faults source.old) (S.faults source.new))
+        → ¬ (ending.Rose (K.faults sink.old) (K.faults sink.new))
         → ending.EndsOnly result Status.Done }
     ensures complete_made { (numbers : Numbers)
         → wording.Asks words.now (Command.Make numbers) ⊎ wording.Asks words.now (Command.Soak
         numbers)
-        → ¬ (Rose (K.faults sink.old) (K.faults sink.new))
+        → ¬ (ending.Rose (K.faults sink.old) (K.faults sink.new))
         → ending.EndsOnly result Status.Done }
     ensures complete_help { (help : Help) → wording.Asks words.now (Command.Help help)
-        → ¬ (Rose (K.faults sink.old) (K.faults sink.new))
+        → ¬ (ending.Rose (K.faults sink.old) (K.faults sink.new))
         → ending.EndsOnly result Status.Done }
 {
     // The laws of every run: these calls say what holds, and do nothing.

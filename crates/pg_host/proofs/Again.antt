@@ -3,9 +3,9 @@ use Rattle.std.proofs.Common.{◌≡◌, ℕ, zero, suc, ◌≤◌, ◌==◌, Bo
 use Rattle.std.proofs.lemmas.Bool.Decides.{nat_tests}
 use Rattle.std.proofs.lemmas.List.{map-append}
 use Rattle.pg_node_input.specs.law_lengths.Laws.{store_behind}
-use Rattle.pg_node_input.specs.law_lengths.pg_server.Local.{effect_of}
-use Rattle.pg_node_input.specs.law_lengths.pg_server.declared.input.Input.{Input}
-use Rattle.pg_node_input.specs.law_lengths.pg_server.declared.input.Input.TheVariants.{Restart}
+use Rattle.pg_server.specs.Local.{effect_of}
+use Rattle.pg_server.specs.declared.input.Input.{Input}
+use Rattle.pg_server.specs.declared.input.Input.TheVariants.{Restart}
 use Rattle.pg_store.specs.Store.{new_store}
 use Rattle.pg_store.specs.declared.store.Store.{Store}
 use Rattle.pg_host.specs.declared.asking.Asked.{Asked}

@@ -8,7 +8,7 @@ use Rattle.pg_packet_write.specs.DatagramValue.{DatagramValue}
 use Rattle.pg_packet_write.specs.declared.datagram.Content.{Content}
 use Rattle.pg_packet_write.specs.declared.datagram.Content.TheVariants as content
 use Rattle.pg_packet_write.specs.declared.datagram.Request.TheVariants as request
-use Rattle.pg_node_input.specs.law_lengths.pg_server.Local.{effect_of}
+use Rattle.pg_server.specs.Local.{effect_of}
 use Rattle.pg_store.specs.declared.store.Store.{Store}
 use Rattle.pg_host.specs.declared.asking.Asked.{Asked}
 use Rattle.pg_host.specs.Inputs.{AreEnough, AreNearlyEnough, EndsByStop, LacksLast, StopsAs, arrived, asked, asked_at, asked_by, called, has_stop, is_stop, moments_at, moments_by, moments_for, ticked, words_at, words_by, words_for}

@@ -5,8 +5,8 @@ use Rattle.std.proofs.lemmas.Bool.Decides.{nat_tests}
 use Rattle.std.proofs.lemmas.List.{length-map, take-map, take_all}
 use Rattle.std.specs.Option.{ForSome}
 use Rattle.pg_node_input.specs.law_lengths.Laws.{store_behind}
-use Rattle.pg_node_input.specs.law_lengths.pg_server.Local.{effect_of}
-use Rattle.pg_node_input.specs.law_lengths.pg_server.declared.input.Input.{Input}
+use Rattle.pg_server.specs.Local.{effect_of}
+use Rattle.pg_server.specs.declared.input.Input.{Input}
 use Rattle.pg_checkpoint.specs.Loads.{LoadsTo}
 use Rattle.pg_checkpoint.specs.Saves.{AreSettled, KeepsRest, Loads, SlotsLeave}
 use Rattle.pg_checkpoint.specs.Slots.{Slot}

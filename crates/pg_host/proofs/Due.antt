@@ -3,7 +3,7 @@ use Rattle.std.proofs.Common.{◌≡◌, ◌⊎◌, inl, inr, ℕ, zero, suc, �
 use Rattle.std.proofs.lemmas.Bool.{cases_lt}
 use Rattle.std.proofs.lemmas.Bool.Decides.{nat_tests}
 use Rattle.std.proofs.lemmas.Nat.{mod-mul-add}
-use Rattle.pg_node_input.specs.law_lengths.pg_server.Local.{effect_of}
+use Rattle.pg_server.specs.Local.{effect_of}
 use Rattle.pg_checkpoint.specs.Loads.{number_of}
 use Rattle.pg_checkpoint.specs.Slots.{Slot}
 use Rattle.pg_saving.specs.Saves.{CanSave, IsSavable, saved}

@@ -13,7 +13,7 @@ use Rattle.pg_log.specs.Log.{Stands, OpensWithOrWithout}
 use Rattle.pg_log.proofs.Standing.{stands_opens}
 use Rattle.pg_net.specs.Net.{Datagram, Told}
 use Rattle.pg_packet_write.specs.DatagramValue.{DatagramValue}
-use Rattle.pg_node_input.specs.law_lengths.pg_server.Local.{effect_of}
+use Rattle.pg_server.specs.Local.{effect_of}
 use Rattle.pg_host.specs.declared.asking.Asked.{Asked}
 use Rattle.pg_host.specs.Entries.{entries_for, entry_for, input_of}
 use Rattle.pg_host.specs.Inputs.{StopsAs, is_stop}

@@ -7,8 +7,8 @@ use Rattle.pg_node_input.specs.law_lengths.Laws.{store_behind}
 use Rattle.pg_event.specs.declared.status.Status.{Status}
 use Rattle.pg_event.specs.declared.status.Status.TheVariants as status
 use Rattle.pg_log.specs.Bytes.{blocks, front, start}
-use Rattle.pg_node_input.specs.law_lengths.pg_server.Local.{effect_of}
-use Rattle.pg_node_input.specs.law_lengths.pg_server.declared.input.Input.{Input}
+use Rattle.pg_server.specs.Local.{effect_of}
+use Rattle.pg_server.specs.declared.input.Input.{Input}
 use Rattle.pg_store.specs.declared.store.Store.{Store}
 use Rattle.pg_host.specs.Entries.{entry_for, input_of, start_of}
 use Rattle.pg_host.specs.Logs.{AreInputs, IsBadEntry, IsStart}

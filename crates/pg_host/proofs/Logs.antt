@@ -2,7 +2,7 @@
 use Rattle.std.proofs.Common.{◌≡◌, ◌⊎◌, inl, inr, ℕ, ◌+◌, ◌≤◌, List, [], ◌∷◌, ◌++◌, length, map, Option, Some, None, Result, Ok, Err, refl, sym, ◌∙◌, ap, subst, arith}
 use Rattle.pg_log.specs.Bytes.{IsBadAt, OpensTo, front}
 use Rattle.pg_log.proofs.Unique.{never_both, one_place, opens_once}
-use Rattle.pg_node_input.specs.law_lengths.pg_server.declared.input.Input.{Input}
+use Rattle.pg_server.specs.declared.input.Input.{Input}
 use Rattle.pg_host.specs.Entries.{input_of, start_of}
 use Rattle.pg_host.specs.Logs.{AreGood, IsBadBehind, IsBadEntry, IsBadLog, IsLogOf, IsOldLog, IsOtherLog, IsOwnLog, Old}
 

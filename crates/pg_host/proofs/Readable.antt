@@ -17,8 +17,8 @@ use Rattle.pg_packet_write.specs.Datagrams.{packet_bytes}
 use Rattle.pg_packet_write.specs.declared.datagram.Content.{Content}
 use Rattle.pg_packet_write.specs.declared.datagram.Content.TheVariants as content
 use Rattle.pg_packet_write.specs.declared.datagram.Request.TheVariants as request
-use Rattle.pg_node_input.specs.law_lengths.pg_server.declared.input.Input.{Input}
-use Rattle.pg_node_input.specs.law_lengths.pg_server.declared.input.Input.TheVariants as input
+use Rattle.pg_server.specs.declared.input.Input.{Input}
+use Rattle.pg_server.specs.declared.input.Input.TheVariants as input
 use Rattle.pg_host.specs.declared.asking.Asked.{Asked}
 use Rattle.pg_host.specs.Entries.{IsShort, begins_log, entry_for, input_found, input_noted, input_of, noted_of, start_entry, start_found, start_of}
 use Rattle.pg_host.specs.Host.{AreRead}

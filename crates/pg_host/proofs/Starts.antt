@@ -14,9 +14,9 @@ use Rattle.pg_node_input.specs.law_lengths.law_spelled.Stores.{FitsStore}
 use Rattle.pg_log.specs.Bytes.{IsBadAt, OpensTo}
 use Rattle.pg_log.specs.Log.{Stands, OpensWithOrWithout}
 use Rattle.pg_log.proofs.Unique.{opens_once}
-use Rattle.pg_node_input.specs.law_lengths.pg_server.Local.{effect_of}
-use Rattle.pg_node_input.specs.law_lengths.pg_server.declared.input.Input.{Input}
-use Rattle.pg_node_input.specs.law_lengths.pg_server.declared.input.Input.TheVariants.{Restart}
+use Rattle.pg_server.specs.Local.{effect_of}
+use Rattle.pg_server.specs.declared.input.Input.{Input}
+use Rattle.pg_server.specs.declared.input.Input.TheVariants.{Restart}
 use Rattle.pg_saving.specs.Usable.{IsUsable, usable}
 use Rattle.pg_saving.specs.declared.loading.Checkpoint.{Checkpoint}
 use Rattle.pg_state.specs.Fits.{FitsState}

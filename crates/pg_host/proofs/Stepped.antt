@@ -2,9 +2,9 @@
 use Rattle.std.proofs.Common.{◌≡◌, ◌≤◌, ◌∙◌, ◌++◌, ℕ, map, Option, Some, None, Result, Ok, Err, IfOk, IfSome, Contains, refl, sym, ap, subst}
 use Rattle.pg_call.specs.declared.reply.Reply.{Reply}
 use Rattle.pg_msg.specs.declared.message.Sent.{Sent}
-use Rattle.pg_node_input.specs.law_lengths.pg_server.declared.input.Input.{Input}
-use Rattle.pg_node_input.specs.law_lengths.pg_server.declared.input.Out.{Out}
-use Rattle.pg_node_input.specs.law_lengths.pg_server.Local.{Effect, effect, effect_of}
+use Rattle.pg_server.specs.declared.input.Input.{Input}
+use Rattle.pg_server.specs.declared.input.Out.{Out}
+use Rattle.pg_server.specs.Local.{Effect, effect, effect_of}
 use Rattle.pg_store.specs.declared.store.Store.{Store}
 use Rattle.pg_node_input.specs.law_lengths.law_spelled.Stores.{FitsStore}
 use Rattle.pg_node_input.specs.law_lengths.Laws.{FitsOn}

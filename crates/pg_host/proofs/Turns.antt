@@ -11,7 +11,7 @@ use Rattle.pg_event.specs.declared.status.Status.TheVariants as status
 use Rattle.pg_log.specs.Log.{Stands}
 use Rattle.pg_saving.specs.Saves.{LeavesSaved}
 use Rattle.pg_store.specs.declared.store.Store.{Store}
-use Rattle.pg_node_input.specs.law_lengths.pg_server.Local.{effect_of}
+use Rattle.pg_server.specs.Local.{effect_of}
 use Rattle.pg_host.specs.declared.asking.Asked.{Asked}
 use Rattle.pg_host.specs.Causes.{IsFault, IsWhole}
 use Rattle.pg_host.specs.Entries.{entries_for}

@@ -30,7 +30,7 @@ use Rattle.pg_host.specs.Sends.{sends}
 use Rattle.pg_host.specs.Starts.{LeavesAtStart, Started}
 use Rattle.pg_host.specs.Host.{Scene, scene, Goes, Ends, Runs, Served}
 use Rattle.pg_host.proofs.Ended.{IsPart, done_not_spent, fault_part, not_whole, spent_not_done}
-use Rattle.pg_node_input.specs.law_lengths.pg_server.declared.input.Input.TheVariants.{Restart}
+use Rattle.pg_server.specs.declared.input.Input.TheVariants.{Restart}
 use Rattle.pg_host.proofs.Agreeing.{agrees_begun, begun_agreed, begun_log, old_count}
 use Rattle.pg_host.proofs.Files.{files_of_log, files_since_then, files_then, log_moves, slots_load, slots_settled}
 use Rattle.pg_host.proofs.Going.{goes_then, goes_ends, ends_of, ends_within}

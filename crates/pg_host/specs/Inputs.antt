@@ -11,8 +11,8 @@ use Rattle.pg_packet_write.specs.DatagramValue.{DatagramValue}
 use Rattle.pg_packet_write.specs.declared.datagram.Content.{Content}
 use Rattle.pg_packet_write.specs.declared.datagram.Content.TheVariants as content
 use Rattle.pg_packet_write.specs.declared.datagram.Request.TheVariants as request
-use Rattle.pg_node_input.specs.law_lengths.pg_server.declared.input.Input.{Input}
-use Rattle.pg_node_input.specs.law_lengths.pg_server.declared.input.Input.TheVariants as input
+use Rattle.pg_server.specs.declared.input.Input.{Input}
+use Rattle.pg_server.specs.declared.input.Input.TheVariants as input
 use Rattle.pg_host.specs.declared.asking.Asked.{Asked}
 use Rattle.pg_host.specs.declared.asking.Back.TheVariants.{Nobody, Client}
 

@@ -8,4 +8,3 @@ pub mod Host
 pub mod Starts
 pub mod Turn
 pub mod Savings
-pub use Rattle.pg_node_input.specs.law_lengths.pg_server as pg_server

@@ -7,7 +7,7 @@ use Rattle.pg_net.specs.Net.{Datagram, Told}
 use Rattle.pg_packet_write.specs.Datagrams.{packet_bytes}
 use Rattle.pg_packet_write.specs.DatagramValue.{DatagramValue}
 use Rattle.pg_packet_write.specs.declared.datagram.Content.TheVariants as content
-use Rattle.pg_node_input.specs.law_lengths.pg_server.Local.{Effect, effect_of}
+use Rattle.pg_server.specs.Local.{Effect, effect_of}
 use Rattle.pg_store.specs.Seen.{server_of, view_of}
 use Rattle.pg_store.specs.declared.store.Store.{Store}
 use Rattle.pg_host.specs.declared.asking.Asked.{Asked}

@@ -12,9 +12,9 @@ use Rattle.pg_event.specs.declared.status.Status.TheVariants as status
 use Rattle.pg_io.specs.Causes.{Rose}
 use Rattle.pg_log.specs.Bytes.{OpensTo, blocks}
 use Rattle.pg_log.specs.Log.{OpensWithOrWithout, Stands}
-use Rattle.pg_node_input.specs.law_lengths.pg_server.Local.{effect_of}
-use Rattle.pg_node_input.specs.law_lengths.pg_server.declared.input.Input.{Input}
-use Rattle.pg_node_input.specs.law_lengths.pg_server.declared.input.Input.TheVariants.{Restart}
+use Rattle.pg_server.specs.Local.{effect_of}
+use Rattle.pg_server.specs.declared.input.Input.{Input}
+use Rattle.pg_server.specs.declared.input.Input.TheVariants.{Restart}
 use Rattle.pg_saving.specs.Usable.{usable}
 use Rattle.pg_saving.specs.declared.loading.Checkpoint.{Checkpoint}
 use Rattle.pg_store.specs.Store.{new_store}

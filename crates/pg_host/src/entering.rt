@@ -8,7 +8,7 @@ ghost use Rattle.pg_disk.specs.Moments.{LeavesSince};
 ghost use Rattle.pg_disk.specs.Synced.{KeepsOthers};
 ghost use Rattle.pg_log.specs.Log.{OpensWithOrWithout, Stands};
 ghost use Rattle.pg_msg.specs.declared.message.Sent.{Sent};
-ghost use Rattle.pg_node_input.specs.law_lengths.pg_server.Local.{effect_of};
+ghost use Rattle.pg_server.specs.Local.{effect_of};
 ghost use Rattle.pg_host.specs.Causes.{IsFault};
 ghost use Rattle.pg_host.specs.Entries.{IsShort, entry_for, noted_of};
 ghost use Rattle.pg_host.specs.Sends.{SentFirst, packets, with_all};

@@ -4,8 +4,8 @@ ghost use Rattle.std.specs.Prelude.{◌≡◌, ◌≤◌, ◌<◌, ◌+◌, ◌^
 ghost use Rattle.pg_node_input.specs.law_lengths.Packets.{IsAskedFew};
 ghost use Rattle.pg_node_input.specs.law_lengths.law_spelled.Messages.{FitsInput};
 ghost use Rattle.pg_node_input.specs.law_lengths.law_spelled.Stores.{FitsStore};
-ghost use Rattle.pg_node_input.specs.law_lengths.pg_server.Local.{effect_of};
-ghost use Rattle.pg_node_input.specs.law_lengths.pg_server.declared.input.Input.{Input};
+ghost use Rattle.pg_server.specs.Local.{effect_of};
+ghost use Rattle.pg_server.specs.declared.input.Input.{Input};
 ghost use Rattle.pg_log.specs.Bytes.{blocks, front};
 ghost use Rattle.pg_saving.specs.Usable.{IsUsable};
 ghost use Rattle.pg_state.specs.Fits.{FitsState};

@@ -2,8 +2,8 @@
 
 ghost use Rattle.std.specs.Prelude.{◌≡◌, ◌≤◌, ◌<◌, ◌+◌, ◌-◌, ◌*◌, ◌^◌, ◌∷◌, ◌++◌, List, ℕ, None, Some, length, map, take};
 ghost use Rattle.std.specs.declared.option.Option.{Option};
-ghost use Rattle.pg_node_input.specs.law_lengths.pg_server.Local.{effect_of};
-ghost use Rattle.pg_node_input.specs.law_lengths.pg_server.declared.input.Input.TheVariants.{Restart};
+ghost use Rattle.pg_server.specs.Local.{effect_of};
+ghost use Rattle.pg_server.specs.declared.input.Input.TheVariants.{Restart};
 ghost use Rattle.pg_checkpoint.specs.Loads.{number_of};
 ghost use Rattle.pg_checkpoint.specs.Slots.{Slot};
 ghost use Rattle.pg_saving.specs.Saves.{IsSavable};

@@ -8,8 +8,8 @@ use Rattle.pg_node_entry.specs.declared.entry.NodeEntry.{NodeEntry}
 use Rattle.pg_node_entry.specs.declared.entry.NodeEntry.TheVariants as entry
 use Rattle.pg_node_entry.specs.declared.error.EntryError.{EntryError}
 use Rattle.pg_node_entry.specs.declared.error.EntryError.TheVariants.{OutOfMemory, Bad}
-use Rattle.law_lengths.specs.pg_server.declared.input.Input.{Input}
-use Rattle.law_lengths.specs.pg_server.declared.input.Input.TheVariants as input
+use Rattle.pg_server.specs.declared.input.Input.{Input}
+use Rattle.pg_server.specs.declared.input.Input.TheVariants as input
 
 -- ---- written
 

@@ -1,6 +1,6 @@
 -- Loops: one thing done after another.
 use Rattle.std.proofs.Common.{◌≡◌, List, ◌∷◌, sym, ap, ◌∙◌}
-use Rattle.pg_house.specs.pg_msg.declared.work.Work.{Work}
+use Rattle.pg_store.specs.pg_house.pg_msg.declared.work.Work.{Work}
 use Rattle.pg_store.specs.declared.store.Store.{Store}
 use Rattle.pg_pieces.specs.Done.{Done}
 use Rattle.pg_pieces.specs.Intending.{each}

@@ -18,9 +18,9 @@ use Rattle.pg_base.proofs.Entries.{lookup-place}
 use Rattle.pg_register.specs.Place.{root}
 use Rattle.pg_store.specs.pg_names.Names.{InodeValue, NamesValue, known, own_of}
 use Rattle.pg_store.specs.pg_names.Calm.{children, is_in, is_placed, is_root}
-use Rattle.pg_house.specs.Facts.{is_among}
-use Rattle.pg_house.proofs.Truths.{or_cases}
-use Rattle.pg_house.proofs.Among.{among_keys}
+use Rattle.pg_store.specs.pg_house.Facts.{is_among}
+use Rattle.pg_store.proofs.pg_house.Truths.{or_cases}
+use Rattle.pg_store.proofs.pg_house.Among.{among_keys}
 use Rattle.pg_pieces.specs.Parting.{first_child, is_child_at, is_child_of}
 
 -- ---- the root is the least id

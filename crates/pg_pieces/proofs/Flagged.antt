@@ -3,7 +3,7 @@ use Rattle.std.proofs.Common.{◌≡◌, ℕ, ◌+◌, ◌<◌, drop, get_or, le
 use Rattle.std.proofs.lemmas.List.{at_drop_more}
 use Rattle.pg_base.specs.declared.id.FileId.{FileId}
 use Rattle.pg_register.specs.declared.flag.Flag.{Flag}
-use Rattle.pg_house.specs.pg_msg.declared.work.Work.{Work}
+use Rattle.pg_store.specs.pg_house.pg_msg.declared.work.Work.{Work}
 use Rattle.pg_store.specs.declared.store.Store.{Store}
 use Rattle.pg_pieces.specs.Done.{Done}
 use Rattle.pg_pieces.specs.Taking.{take_flag_noted, take_flags_noted}

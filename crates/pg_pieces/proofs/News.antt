@@ -2,7 +2,7 @@
 use Rattle.std.proofs.Common.{◌≡◌, Bool, true, false, refl}
 use Rattle.pg_base.specs.declared.id.FileId.{FileId}
 use Rattle.pg_edges.specs.declared.key.Key.{Key}
-use Rattle.pg_house.specs.pg_msg.declared.work.Work.{Work}
+use Rattle.pg_store.specs.pg_house.pg_msg.declared.work.Work.{Work}
 use Rattle.pg_pieces.specs.Taking.{with_news}
 
 pub news_made : (news : Bool) (work : Work) (f : FileId) (k : Key) → (with_news news work f k).made ≡ work.made

@@ -12,7 +12,7 @@ use Rattle.pg_store.specs.pg_names.Calm.{AreCalm, IsCalm}
 use Rattle.pg_store.specs.declared.store.Store.{Store}
 use Rattle.pg_store.specs.Births.{birth_of}
 use Rattle.pg_store.specs.Seen.{removed_of, server_of}
-use Rattle.pg_house.proofs.Dirty.{of_dirty}
+use Rattle.pg_store.proofs.pg_house.Dirty.{of_dirty}
 use Rattle.pg_pieces.specs.Golds.{goldless, is_goldless, is_goldless_held, is_of_later}
 
 module _ (store : Store) where

@@ -2,10 +2,10 @@
 use Rattle.std.specs.Prelude.{ℕ, Bool, true, false, ◌&&◌, ◌||◌, not, if◌then◌else◌}
 use Rattle.pg_base.specs.declared.id.FileId.{FileId}
 use Rattle.pg_store.specs.pg_replica.Replica.{has_edge}
-use Rattle.pg_house.specs.pg_msg.declared.message.Ends.{Ends}
-use Rattle.pg_house.specs.pg_msg.declared.message.Message.TheVariants as message
-use Rattle.pg_house.specs.pg_msg.declared.work.Work.{Work}
-use Rattle.pg_house.specs.pg_msg.Work.{with_linked}
+use Rattle.pg_store.specs.pg_house.pg_msg.declared.message.Ends.{Ends}
+use Rattle.pg_store.specs.pg_house.pg_msg.declared.message.Message.TheVariants as message
+use Rattle.pg_store.specs.pg_house.pg_msg.declared.work.Work.{Work}
+use Rattle.pg_store.specs.pg_house.pg_msg.Work.{with_linked}
 use Rattle.pg_store.specs.declared.store.Store.{Store}
 use Rattle.pg_store.specs.Births.{birth_of, has_birth, is_pending}
 use Rattle.pg_store.specs.Links.{is_new_link, knows_later, link}

@@ -1,8 +1,8 @@
 -- What a handler leaves.
 use Rattle.std.specs.Prelude.{ℕ}
 use Rattle.pg_store.specs.pg_replica.declared.link.Link.{Link}
-use Rattle.pg_house.specs.pg_msg.declared.message.Ends.{Ends}
-use Rattle.pg_house.specs.pg_msg.declared.work.Work.{Work}
+use Rattle.pg_store.specs.pg_house.pg_msg.declared.message.Ends.{Ends}
+use Rattle.pg_store.specs.pg_house.pg_msg.declared.work.Work.{Work}
 use Rattle.pg_store.specs.declared.store.Store.{Store}
 
 -- what the server holds then, and what comes of the event so far

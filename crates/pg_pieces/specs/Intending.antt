@@ -4,8 +4,8 @@ use Rattle.pg_store.specs.pg_intent.declared.intent.Intent.{Intent}
 use Rattle.pg_store.specs.pg_intent.declared.key.IntentKey.{IntentKey}
 use Rattle.pg_store.specs.pg_intent.Intent.{key_of}
 use Rattle.pg_store.specs.pg_intent.Intents.{begun, stands}
-use Rattle.pg_house.specs.pg_msg.declared.work.Work.{Work}
-use Rattle.pg_house.specs.pg_msg.Work.{with_begun}
+use Rattle.pg_store.specs.pg_house.pg_msg.declared.work.Work.{Work}
+use Rattle.pg_store.specs.pg_house.pg_msg.Work.{with_begun}
 use Rattle.pg_store.specs.declared.store.Store.{Store}
 use Rattle.pg_store.specs.Beginning.{with_intents}
 use Rattle.pg_pieces.specs.Done.{Done, idle}

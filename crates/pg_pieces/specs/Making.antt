@@ -3,9 +3,9 @@ use Rattle.std.specs.Prelude.{Bool, true, false}
 use Rattle.pg_base.specs.declared.id.FileId.{FileId}
 use Rattle.pg_register.specs.declared.flag.Flag.{Flag}
 use Rattle.pg_register.specs.Flag.{next_flag}
-use Rattle.pg_house.specs.pg_msg.declared.update.Update.TheVariants as update
-use Rattle.pg_house.specs.pg_msg.declared.work.Work.{Work}
-use Rattle.pg_house.specs.pg_msg.Work.{with_made}
+use Rattle.pg_store.specs.pg_house.pg_msg.declared.update.Update.TheVariants as update
+use Rattle.pg_store.specs.pg_house.pg_msg.declared.work.Work.{Work}
+use Rattle.pg_store.specs.pg_house.pg_msg.Work.{with_made}
 use Rattle.pg_store.specs.pg_names.Names.{own_or_blank}
 use Rattle.pg_store.specs.declared.store.Store.{Store}
 use Rattle.pg_store.specs.Births.{birth_of}

@@ -1,9 +1,9 @@
 -- Messages to other servers.
 use Rattle.std.specs.Prelude.{ℕ}
-use Rattle.pg_house.specs.pg_msg.declared.message.Message.{Message}
-use Rattle.pg_house.specs.pg_msg.declared.message.Sent.{Sent}
-use Rattle.pg_house.specs.pg_msg.declared.work.Work.{Work}
-use Rattle.pg_house.specs.pg_msg.Work.{with_sent}
+use Rattle.pg_store.specs.pg_house.pg_msg.declared.message.Message.{Message}
+use Rattle.pg_store.specs.pg_house.pg_msg.declared.message.Sent.{Sent}
+use Rattle.pg_store.specs.pg_house.pg_msg.declared.work.Work.{Work}
+use Rattle.pg_store.specs.pg_house.pg_msg.Work.{with_sent}
 use Rattle.pg_store.specs.declared.store.Store.{Store}
 use Rattle.pg_store.specs.Seen.{server_of, view_of}
 

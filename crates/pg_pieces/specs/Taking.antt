@@ -7,10 +7,10 @@ use Rattle.pg_edges.specs.declared.key.Key.TheVariants as key
 use Rattle.pg_register.specs.declared.flag.Flag.{Flag}
 use Rattle.pg_register.specs.declared.place.Place.{Place}
 use Rattle.pg_entries.specs.declared.entry.Entry.{Entry}
-use Rattle.pg_house.specs.pg_msg.declared.work.Work.{Work}
-use Rattle.pg_house.specs.pg_msg.Work.{with_touched, with_unsure}
+use Rattle.pg_store.specs.pg_house.pg_msg.declared.work.Work.{Work}
+use Rattle.pg_store.specs.pg_house.pg_msg.Work.{with_touched, with_unsure}
 use Rattle.pg_store.specs.pg_names.Names.{own_or_blank}
-use Rattle.pg_house.specs.Work.{note_left}
+use Rattle.pg_store.specs.pg_house.Work.{note_left}
 use Rattle.pg_store.specs.declared.store.Store.{Store}
 use Rattle.pg_store.specs.declared.taking.EntryNews.{EntryNews}
 use Rattle.pg_store.specs.declared.taking.EntryNews.TheVariants as news

@@ -6,7 +6,7 @@ ghost use Rattle.pg_pieces.specs.Done.{link_of};
 
 use crate::posting::post;
 use pg_base::{FileId, NodeId};
-use pg_house::msg::{Ends, Linked, Message, Work};
+use pg_store::msg::{Ends, Linked, Message, Work};
 use pg_store::{Link, Store};
 use std::alloc::AllocError;
 

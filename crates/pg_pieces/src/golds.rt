@@ -5,9 +5,8 @@ ghost use Rattle.pg_register.specs.Flag.{flag_of};
 ghost use Rattle.pg_pieces.specs.Golds.{goldless, is_gold, is_goldless, is_goldless_held, is_of_later, sees_gold};
 
 use pg_base::{FileId, Items, NodeId};
-use pg_house::dirty_things;
 use pg_register::{GoldFlags, is_removed};
-use pg_store::{Inode, Names, Store};
+use pg_store::{Inode, Names, Store, dirty_things};
 use std::alloc::AllocError;
 
 /// Whether the server's own replica of a thing is gold: its flag is raised, with the replica's

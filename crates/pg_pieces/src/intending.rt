@@ -3,7 +3,7 @@
 ghost use Rattle.std.specs.Prelude.{◌≡◌, OnOk};
 ghost use Rattle.pg_pieces.specs.Intending.{begin_intent, with_begun_if};
 
-use pg_house::msg::Work;
+use pg_store::msg::Work;
 use pg_store::{Intent, IntentKey, Store};
 use std::alloc::AllocError;
 

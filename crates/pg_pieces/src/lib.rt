@@ -38,7 +38,7 @@ pub use golds::{goldless, is_gold, is_goldless};
 pub use intending::begin_intent;
 pub use making::{lower_flag, raise_flag};
 pub use parting::stays_for;
-pub use pg_house::msg;
+pub use pg_store::msg;
 pub use posting::{post, send};
 pub use taking::{take_entry, take_entry_cell, take_flag, take_flags, take_place, take_version};
 
@@ -48,7 +48,7 @@ pub mod call {
 }
 
 pub mod house {
-    pub use pg_house::{count_held_back, dirty_things, first_held_back, is_root};
+    pub use pg_store::{count_held_back, dirty_things, first_held_back, is_root};
 }
 
 pub mod intent {

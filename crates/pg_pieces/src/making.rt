@@ -5,8 +5,8 @@ ghost use Rattle.pg_pieces.specs.Making.{lower_flag, make_flag, own_next, raise_
 
 use crate::taking::take_flag;
 use pg_base::FileId;
-use pg_house::msg::{Update, Work};
 use pg_register::Flag;
+use pg_store::msg::{Update, Work};
 use pg_store::{COUNTER_LIMIT, Store};
 use std::alloc::AllocError;
 

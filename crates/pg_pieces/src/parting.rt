@@ -12,8 +12,7 @@ use crate::golds::is_gold;
 use pg_base::{FileId, Kind};
 use pg_call::{Refusal, Unsettled};
 use pg_edges::Edge;
-use pg_house::dirty_things;
-use pg_store::{Inode, Intent, Names, Store};
+use pg_store::{Inode, Intent, Names, Store, dirty_things};
 
 /// Whether what is held has a live place in the directory.
 fn is_child_of(dir: &FileId, file: &FileId, held: &Inode) -> bool

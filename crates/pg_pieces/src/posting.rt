@@ -4,8 +4,8 @@ ghost use Rattle.std.specs.Prelude.{◌≡◌, ◌++◌, ◌∷◌, [], OnOk};
 ghost use Rattle.pg_pieces.specs.Posting.{post, sent_to};
 
 use pg_base::{Items, NodeId};
-use pg_house::msg::{Message, Packet, Sent, Work};
 use pg_store::Store;
+use pg_store::msg::{Message, Packet, Sent, Work};
 use std::alloc::AllocError;
 
 /// Sends a message to a server, behind these.

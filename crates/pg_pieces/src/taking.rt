@@ -7,10 +7,9 @@ ghost use Rattle.pg_pieces.specs.Taking.{is_any_news, is_place_news, take_entry_
 use pg_base::{FileId, Version};
 use pg_edges::Key;
 use pg_entries::Entry;
-use pg_house::msg::{Slot, Touched, Work};
-use pg_house::note_left;
 use pg_register::{Flag, GoldFlags, Place};
-use pg_store::{EntryNews, Store};
+use pg_store::msg::{Slot, Touched, Work};
+use pg_store::{EntryNews, Store, note_left};
 use std::alloc::AllocError;
 
 /// The key is touched, where what was taken there was news.

@@ -1,9 +1,11 @@
 -- How a command ends.
 use Rattle.std.specs.Prelude.{ℕ, ◌≡◌, ◌⊎◌, List, Option, IfSome}
-use Rattle.pg_call.specs.declared.fault.Fault.{Fault}
+pub use Rattle.pg_call.specs.declared.fault.Fault.{Fault}
 use Rattle.pg_event.specs.declared.status.Status.{Status}
 use Rattle.pg_event.specs.declared.status.Status.TheVariants as status
-use Rattle.pg_sched.specs.Schedule.{IsFirstBad}
+pub use Rattle.pg_io.specs.Causes.{Rose}
+pub use Rattle.pg_sched.specs.Schedule.{IsFirstBad}
+pub use Rattle.std.specs.Io.KnownBytes.{IsAtEnd}
 
 -- so, or out of memory
 abbrev pub EndsOnly : Status → Status → Type 0

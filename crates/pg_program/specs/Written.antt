@@ -1,13 +1,15 @@
 -- What the program writes of an input, and when it ends how.
 use Rattle.std.specs.Prelude.{ℕ, ◌≡◌, ◌≤◌, ◌<◌, Bool, List, [], true, false, Option, Some, IfSome, length, take}
-use Rattle.std.specs.Io.KnownBytes.{Appends}
+pub use Rattle.std.specs.Io.KnownBytes.{Appends}
 use Rattle.pg_sched.specs.declared.line.Line.{Line}
-use Rattle.pg_sched.specs.Schedule.{spelling, IsCount, AreLines}
+use Rattle.pg_sched.specs.Schedule.{spelling, AreLines}
+pub use Rattle.pg_sched.specs.Schedule.{IsCount}
 use Rattle.pg_program.specs.declared.replay.TheConstants.{LIMIT}
 use Rattle.pg_command.specs.declared.command.Command.{Command}
 use Rattle.pg_command.specs.declared.command.Command.TheVariants.{Replay, Make, Soak, Node, Call, Help}
 use Rattle.pg_make.specs.Made.{made_text}
 use Rattle.pg_meter.specs.declared.meter.Reading.{Reading}
+pub use Rattle.pg_meter.specs.Note.{reading}
 pub use Rattle.pg_replay.specs.Apart.{JournalsAreAlike}
 pub use Rattle.pg_replay.specs.Lines.{LinesAreEvents}
 use Rattle.pg_replay.specs.Soaking.{soak_text}

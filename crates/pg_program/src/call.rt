@@ -4,7 +4,6 @@ ghost use Rattle.std.specs.Prelude.{◌≡◌, ◌+◌};
 ghost use Rattle.pg_program.specs.Ending as ending;
 ghost use Rattle.pg_client.specs.Asks as client;
 ghost use Rattle.pg_command.specs.Words.{IsCalling};
-ghost use Rattle.pg_io.specs.Causes.{Rose};
 
 use pg_base::NodeId;
 use pg_client::ask;
@@ -28,8 +27,9 @@ pub fn call<N: Net, K: Sink>(
     ensures asks { client.Asks N.tells (port + server) request result
         (N.told net.old) (N.told net.new) (N.takes net.old) (N.takes net.new)
         (K.contents sink.old) (K.contents sink.new) }
-    ensures net { result ≡ Status.NetFault → Rose (N.faults net.old) (N.faults net.new) }
-    ensures write { result ≡ Status.WriteFault → Rose (K.faults sink.old) (K.faults sink.new) }
+    ensures net { result ≡ Status.NetFault → ending.Rose (N.faults net.old) (N.faults net.new) }
+    ensures write { result ≡ Status.WriteFault
+        → ending.Rose (K.faults sink.old) (K.faults sink.new) }
     ensures ends { ending.IsCallEnd result }
 {
     requests_have_packets();

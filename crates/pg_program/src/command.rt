@@ -2,7 +2,6 @@
 
 ghost use Rattle.std.specs.Prelude.{◌≡◌, map};
 ghost use Rattle.pg_command.specs.Words as wording;
-ghost use Rattle.pg_meter.specs.Note.{reading};
 ghost use Rattle.pg_program.specs.Acts as acts;
 ghost use Rattle.pg_program.specs.Seen.{seen};
 ghost use Rattle.pg_program.specs.Written as written;
@@ -23,8 +22,8 @@ use std::alloc::Global;
 
 /// The meters that are handed in, where a replay has some; else none.
 fn handed(alloc: Global, metered: bool, meters: Vec<Box<dyn Meter>>) -> Vec<Box<dyn Meter>>
-    ensures { map (λ m. reading (counts m) (counted m)) result.items
-        ≡ written.handed metered (map (λ m. reading (counts m) (counted m)) meters.items) }
+    ensures { map (λ m. written.reading (counts m) (counted m)) result.items
+        ≡ written.handed metered (map (λ m. written.reading (counts m) (counted m)) meters.items) }
 {
     if metered { meters } else { Vec::new(alloc) }
 }
@@ -42,7 +41,7 @@ fn obey<S: Source, K: Sink, N: Net, D: Disk, C: Clock>(
 ) -> Status
     requires { wording.IsCommand command }
     ensures { acts.Obeys N.tells C.tells D.tells command
-        (map (λ m. reading (counts m) (counted m)) meters.items) result
+        (map (λ m. written.reading (counts m) (counted m)) meters.items) result
         (seen (S.remaining source.old) (S.faults source.old) (K.contents sink.old)
         (K.faults sink.old) (N.told net.old) (N.takes net.old) (N.faults net.old)
         (D.told disk.old) (D.faults disk.old) (C.told clock.old))
@@ -98,7 +97,7 @@ pub fn heed<S: Source, K: Sink, N: Net, D: Disk, C: Clock>(
     meters: Vec<Box<dyn Meter>>,
 ) -> Status
     ensures { acts.Heeds N.tells C.tells D.tells words.now
-        (map (λ m. reading (counts m) (counted m)) meters.items) result
+        (map (λ m. written.reading (counts m) (counted m)) meters.items) result
         (seen (S.remaining source.old) (S.faults source.old) (K.contents sink.old)
         (K.faults sink.old) (N.told net.old) (N.takes net.old) (N.faults net.old)
         (D.told disk.old) (D.faults disk.old) (C.told clock.old))

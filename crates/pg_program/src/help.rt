@@ -1,10 +1,8 @@
 //! Help is written.
 
 ghost use Rattle.std.specs.Prelude.{◌≡◌, ◌≢◌, List, ℕ};
-ghost use Rattle.std.specs.Io.KnownBytes.{Appends};
 ghost use Rattle.pg_program.specs.Ending as ending;
 ghost use Rattle.pg_program.specs.Written as written;
-ghost use Rattle.pg_io.specs.Causes.{Rose};
 
 use pg_command::{Help, help_of};
 use pg_event::Status;
@@ -14,13 +12,14 @@ use std::alloc::Global;
 /// Writes the help that is asked for. No clause says what it tells.
 pub fn help<K: Sink>(alloc: Global, asked: Help, sink: &mut K) -> Status
     ensures done { result ≡ Status.Done
-        → (text : List ℕ) × Appends (K.contents sink.old) (K.contents sink.new) text }
+        → (text : List ℕ) × written.Appends (K.contents sink.old) (K.contents sink.new) text }
     ensures prefix { result ≡ Status.WriteFault → (text : List ℕ)
         × written.AppendsPrefix (K.contents sink.old) (K.contents sink.new) text }
     ensures untouched { result ≢ Status.Done → result ≢ Status.WriteFault → sink.new ≡ sink.old }
-    ensures write { result ≡ Status.WriteFault → Rose (K.faults sink.old) (K.faults sink.new) }
+    ensures write { result ≡ Status.WriteFault
+        → ending.Rose (K.faults sink.old) (K.faults sink.new) }
     ensures ends { ending.IsTextEnd result }
-    ensures complete { ¬ (Rose (K.faults sink.old) (K.faults sink.new))
+    ensures complete { ¬ (ending.Rose (K.faults sink.old) (K.faults sink.new))
         → ending.EndsOnly result Status.Done }
 {
     let Ok(text) = help_of(alloc, asked) else {

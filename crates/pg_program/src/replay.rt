@@ -1,14 +1,9 @@
 //! A schedule is read, and the journal of its run is written.
 
 ghost use Rattle.std.specs.Prelude.{◌≡◌, ◌≢◌, ◌≤◌, ◌^◌, ℕ, List, IfSome, Some, length, map};
-ghost use Rattle.std.specs.Io.KnownBytes.{IsAtEnd};
 ghost use Rattle.pg_program.specs.Ending as ending;
 ghost use Rattle.pg_program.specs.Written as written;
-ghost use Rattle.pg_call.specs.declared.fault.Fault.{Fault};
-ghost use Rattle.pg_io.specs.Causes.{Rose};
-ghost use Rattle.pg_meter.specs.Note.{reading};
 ghost use Rattle.pg_replay.specs.Apart.{JournalsAreAlike};
-ghost use Rattle.pg_sched.specs.Schedule.{IsFirstBad};
 
 use pg_event::Status;
 use pg_io::{ReadAllError, Sink, Source, read_all, write_all};
@@ -31,12 +26,12 @@ pub fn replay<S: Source, K: Sink>(
     // What is written: the spelling of the lines of the run, each of them a line of a journal; so
     // it is read again.
     ensures done { result ≡ Status.Done
-        → written.WritesAll (map (λ m. reading (counts m) (counted m)) meters.items)
+        → written.WritesAll (map (λ m. written.reading (counts m) (counted m)) meters.items)
         (S.remaining source.old) (K.contents sink.old) (K.contents sink.new) }
-    ensures whole { result ≡ Status.Done → IsAtEnd (S.remaining source.new) }
-    ensures whole_first { result ≡ Status.WriteFault → IsAtEnd (S.remaining source.new) }
+    ensures whole { result ≡ Status.Done → ending.IsAtEnd (S.remaining source.new) }
+    ensures whole_first { result ≡ Status.WriteFault → ending.IsAtEnd (S.remaining source.new) }
     ensures prefix { result ≡ Status.WriteFault
-        → written.WritesPrefix (map (λ m. reading (counts m) (counted m)) meters.items)
+        → written.WritesPrefix (map (λ m. written.reading (counts m) (counted m)) meters.items)
         (S.remaining source.old) (K.contents sink.old) (K.contents sink.new) }
     ensures untouched { result ≢ Status.Done → result ≢ Status.WriteFault → sink.new ≡ sink.old }
 
@@ -45,26 +40,29 @@ pub fn replay<S: Source, K: Sink>(
     ensures alike { (servers : ℕ) → JournalsAreAlike servers }
 
     // When it ends how.
-    ensures read { result ≡ Status.ReadFault → Rose (S.faults source.old) (S.faults source.new) }
-    ensures write { result ≡ Status.WriteFault → Rose (K.faults sink.old) (K.faults sink.new) }
+    ensures read { result ≡ Status.ReadFault
+        → ending.Rose (S.faults source.old) (S.faults source.new) }
+    ensures write { result ≡ Status.WriteFault
+        → ending.Rose (K.faults sink.old) (K.faults sink.new) }
     ensures limit { written.most_input ≡ 2 ^ 26 }
     ensures long { result ≡ Status.InputLong → IfSome (S.remaining source.old) written.IsTooLong }
     ensures short { (input : List ℕ) → S.remaining source.old ≡ Some input → written.IsTooLong input
-        → ¬ (Rose (S.faults source.old) (S.faults source.new))
+        → ¬ (ending.Rose (S.faults source.old) (S.faults source.new))
         → ending.EndsOnly result Status.InputLong }
-    ensures bad { (n : ℕ) (f : Fault) → result ≡ Status.BadLine n f
+    ensures bad { (n : ℕ) (f : ending.Fault) → result ≡ Status.BadLine n f
         → ending.FirstBadIs (S.remaining source.old) n f }
-    ensures whole_bad { (n : ℕ) (f : Fault) → result ≡ Status.BadLine n f
-        → IsAtEnd (S.remaining source.new) }
-    ensures first_bad { (input : List ℕ) (n : ℕ) (f : Fault) → S.remaining source.old ≡ Some input
-        → length input ≤ written.most_input → IsFirstBad input n f
-        → ¬ (Rose (S.faults source.old) (S.faults source.new))
+    ensures whole_bad { (n : ℕ) (f : ending.Fault) → result ≡ Status.BadLine n f
+        → ending.IsAtEnd (S.remaining source.new) }
+    ensures first_bad { (input : List ℕ) (n : ℕ) (f : ending.Fault)
+        → S.remaining source.old ≡ Some input
+        → length input ≤ written.most_input → ending.IsFirstBad input n f
+        → ¬ (ending.Rose (S.faults source.old) (S.faults source.new))
         → ending.EndsOnly result (Status.BadLine n f) }
     ensures usage { (n : ℕ) → result ≢ Status.Usage n }
     ensures ends { ending.IsFileEnd result }
     ensures complete { written.IsGoodInput (S.remaining source.old)
-        → ¬ (Rose (S.faults source.old) (S.faults source.new))
-        → ¬ (Rose (K.faults sink.old) (K.faults sink.new))
+        → ¬ (ending.Rose (S.faults source.old) (S.faults source.new))
+        → ¬ (ending.Rose (K.faults sink.old) (K.faults sink.new))
         → ending.EndsOnly result Status.Done }
 {
     journals_are_alike();

@@ -1,11 +1,8 @@
 //! A made schedule is run, and what came of it is written.
 
 ghost use Rattle.std.specs.Prelude.{◌≡◌, ◌≢◌, ◌≤◌};
-ghost use Rattle.std.specs.Io.KnownBytes.{Appends};
 ghost use Rattle.pg_program.specs.Ending as ending;
 ghost use Rattle.pg_program.specs.Written as written;
-ghost use Rattle.pg_io.specs.Causes.{Rose};
-ghost use Rattle.pg_sched.specs.Schedule.{IsCount};
 ghost use Rattle.pg_replay.specs.Soaking.{soak_text};
 
 use pg_event::Status;
@@ -24,17 +21,19 @@ pub fn soak<K: Sink>(
     sink: &mut K,
     _meters: Vec<Box<dyn Meter>>,
 ) -> Status
-    requires servers { IsCount servers }
+    requires servers { written.IsCount servers }
     requires events { events ≤ 1000000 }
-    ensures done { result ≡ Status.Done → Appends (K.contents sink.old) (K.contents sink.new)
+    ensures done { result ≡ Status.Done
+        → written.Appends (K.contents sink.old) (K.contents sink.new)
         (soak_text seed servers events) }
     ensures prefix { result ≡ Status.WriteFault
         → written.AppendsPrefix (K.contents sink.old) (K.contents sink.new)
         (soak_text seed servers events) }
     ensures untouched { result ≢ Status.Done → result ≢ Status.WriteFault → sink.new ≡ sink.old }
-    ensures write { result ≡ Status.WriteFault → Rose (K.faults sink.old) (K.faults sink.new) }
+    ensures write { result ≡ Status.WriteFault
+        → ending.Rose (K.faults sink.old) (K.faults sink.new) }
     ensures ends { ending.IsTextEnd result }
-    ensures complete { ¬ (Rose (K.faults sink.old) (K.faults sink.new))
+    ensures complete { ¬ (ending.Rose (K.faults sink.old) (K.faults sink.new))
         → ending.EndsOnly result Status.Done }
 {
     let Ok(text) = summary_of(alloc, seed, servers, events) else {

@@ -3,7 +3,7 @@ use Rattle.std.proofs.Common.{ℕ, suc, ◌≡◌, ◌-◌, ◌==◌, Bool, true
 use Rattle.std.specs.Prelude.{slice_get, remove, take, drop}
 use Rattle.std.proofs.lemmas.Option.{slice_get_cases}
 use Rattle.std.proofs.lemmas.List.Elements.{All-append, All-take, All-drop, All-push}
-use Rattle.pg_msg.specs.declared.message.Sent.{Sent}
+use Rattle.pg_server.specs.pg_pieces.pg_msg.declared.message.Sent.{Sent}
 use Rattle.pg_run.specs.Journal.{message_at, without, with_copy}
 
 -- ---- lists

@@ -2,7 +2,7 @@
 use Rattle.std.proofs.Common.{◌≡◌, ℕ, Bool, true, false, cond, List, ◌++◌, map, ◌⊎◌, inl, inr, sym, ap, subst, ◌∙◌}
 use Rattle.std.proofs.lemmas.List.{map-append}
 use Rattle.pg_content.specs.Content.{Among}
-use Rattle.pg_store.specs.declared.store.Store.{Store}
+use Rattle.pg_server.specs.pg_pieces.pg_store.declared.store.Store.{Store}
 use Rattle.pg_server.specs.declared.input.Input.{Input}
 use Rattle.pg_server.specs.Local.{effect, takes_effect}
 use Rattle.pg_run.specs.Asking.{Asked}

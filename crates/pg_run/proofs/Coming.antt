@@ -9,7 +9,7 @@ use Rattle.theory_flood.proofs.Flood.{here}
 use Rattle.pg_event.specs.declared.event.Event.{Event}
 use Rattle.pg_server.specs.declared.input.Input.{Input}
 use Rattle.pg_server.specs.Local.{takes_effect}
-use Rattle.pg_house.specs.Facts.{is_among}
+use Rattle.pg_server.specs.pg_pieces.pg_house.Facts.{is_among}
 use Rattle.pg_run.specs.Carried.{gone_in}
 use Rattle.pg_run.specs.Took.{Take, held, is_held, without_gone}
 use Rattle.pg_run.specs.Took.Taker.{Itself}

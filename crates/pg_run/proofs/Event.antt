@@ -7,20 +7,20 @@ use Rattle.pg_base.specs.declared.id.FileId.{FileId}
 use Rattle.pg_edges.specs.declared.edge.Edge.{Edge}
 use Rattle.pg_edges.specs.declared.key.Key.{Key}
 use Rattle.pg_entries.specs.declared.cell.Cell.{Cell}
-use Rattle.pg_intent.specs.declared.intent.Intent.{Intent}
-use Rattle.pg_intent.specs.declared.key.IntentKey.{IntentKey}
-use Rattle.pg_intent.specs.Intent.{target_of}
-use Rattle.pg_intent.specs.Intents.{has_key, intent_at}
-use Rattle.pg_msg.specs.declared.message.Message.{Message}
-use Rattle.pg_msg.specs.declared.message.Packet.{Packet}
-use Rattle.pg_msg.specs.declared.message.Sent.{Sent}
-use Rattle.pg_msg.specs.Work.{new_work}
-use Rattle.pg_call.specs.declared.call.Call.{Call}
-use Rattle.pg_call.specs.declared.reply.Reply.{Reply}
-use Rattle.pg_replica.specs.declared.replica.Replica.{Replica}
-use Rattle.pg_store.specs.declared.store.Store.{Store}
-use Rattle.pg_store.specs.Cells.{cell_at}
-use Rattle.pg_store.specs.Store.{is_before_clock_end}
+use Rattle.pg_server.specs.pg_pieces.pg_intent.declared.intent.Intent.{Intent}
+use Rattle.pg_server.specs.pg_pieces.pg_intent.declared.key.IntentKey.{IntentKey}
+use Rattle.pg_server.specs.pg_pieces.pg_intent.Intent.{target_of}
+use Rattle.pg_server.specs.pg_pieces.pg_intent.Intents.{has_key, intent_at}
+use Rattle.pg_server.specs.pg_pieces.pg_msg.declared.message.Message.{Message}
+use Rattle.pg_server.specs.pg_pieces.pg_msg.declared.message.Packet.{Packet}
+use Rattle.pg_server.specs.pg_pieces.pg_msg.declared.message.Sent.{Sent}
+use Rattle.pg_server.specs.pg_pieces.pg_msg.Work.{new_work}
+use Rattle.pg_server.specs.pg_pieces.pg_call.declared.call.Call.{Call}
+use Rattle.pg_server.specs.pg_pieces.pg_call.declared.reply.Reply.{Reply}
+use Rattle.pg_server.specs.pg_pieces.pg_replica.declared.replica.Replica.{Replica}
+use Rattle.pg_server.specs.pg_pieces.pg_store.declared.store.Store.{Store}
+use Rattle.pg_server.specs.pg_pieces.pg_store.Cells.{cell_at}
+use Rattle.pg_server.specs.pg_pieces.pg_store.Store.{is_before_clock_end}
 use Rattle.pg_server.specs.pg_pieces.Done.{Done, idle}
 use Rattle.pg_server.specs.pg_pieces.Posting.{sent_to}
 use Rattle.pg_server.specs.pg_cells.Sending.{Wanted, cell_to, cell_under, cells_where, edge_cells, is_chosen, key_cell, replica_cells, waits}

@@ -4,8 +4,8 @@ use Rattle.std.proofs.Common.{[], ℕ, ◌≡◌, ◌==◌, ◌≢◌, ◌≤◌
 use Rattle.std.specs.Prelude.{Contains, nat_le, not}
 use Rattle.std.proofs.lemmas.Bool.{and_parts, leb-true, not-true}
 use Rattle.std.proofs.lemmas.List.Elements.{All-append, All-cons, All-contains_itself, All-filter, All-head, All-nil, All-tail}
-use Rattle.pg_msg.specs.declared.message.Sent.{Sent}
-use Rattle.pg_call.specs.declared.call.Call.{Call}
+use Rattle.pg_server.specs.pg_pieces.pg_msg.declared.message.Sent.{Sent}
+use Rattle.pg_server.specs.pg_pieces.pg_call.declared.call.Call.{Call}
 use Rattle.pg_event.specs.declared.entry.Entry.{Entry}
 use Rattle.pg_event.specs.declared.entry.VoidCause.{VoidCause}
 use Rattle.pg_event.specs.declared.entry.VoidCause.TheVariants.{Last, NoMessage, Unremoved}

@@ -7,7 +7,7 @@ use Rattle.pg_base.specs.Id.{is_same_file}
 use Rattle.pg_base.proofs.Orders.{is_same_file-refl, is_same_file-true}
 use Rattle.pg_content.specs.Content.{Among}
 use Rattle.pg_content.proofs.Members.{among_filter, filter_among}
-use Rattle.pg_house.specs.Facts.{is_among}
+use Rattle.pg_server.specs.pg_pieces.pg_house.Facts.{is_among}
 use Rattle.pg_run.specs.Took.{Take, Taker, begun_by, flag_taken_by, flags_taken, held, is_held, is_of_replica, is_same_taker, is_taker, place_taken_by, places_taken, stamp_taken_by, stamps_taken, without, without_gone}
 use Rattle.pg_run.specs.Took.Taker.{InDir, Itself}
 use Rattle.pg_run.specs.Took.Take.{Began, TookFlag, TookPlace, TookVersion}

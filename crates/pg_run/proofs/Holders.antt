@@ -3,16 +3,16 @@ use Rattle.std.proofs.Common.{ℕ, ◌≡◌, refl}
 use Rattle.pg_base.specs.declared.id.FileId.{FileId}
 use Rattle.pg_entries.specs.declared.cell.Cell.{Cell}
 use Rattle.pg_entries.specs.declared.cell.Cell.TheVariants as cells
-use Rattle.pg_msg.specs.declared.message.Ends.{Ends}
-use Rattle.pg_msg.specs.declared.work.Work.{Work}
-use Rattle.pg_names.specs.Names as names
-use Rattle.pg_names.proofs.Lookups.{update_frame}
+use Rattle.pg_server.specs.pg_pieces.pg_msg.declared.message.Ends.{Ends}
+use Rattle.pg_server.specs.pg_pieces.pg_msg.declared.work.Work.{Work}
+use Rattle.pg_server.specs.pg_pieces.pg_names.Names as names
+use Rattle.pg_server.proofs.pg_pieces.pg_names.Lookups.{update_frame}
 use Rattle.theory_flood_pieces.proofs.Choices.{chosen}
-use Rattle.pg_store.specs.declared.store.Store.{Store}
-use Rattle.pg_store.specs.Births.{has_birth}
-use Rattle.pg_store.specs.Links.{is_new_link, knows_later, put_link}
-use Rattle.pg_store.specs.Seen.{server_of}
-use Rattle.pg_store.specs.Store.{is_new_version, is_newer_entry, is_newer_flag, is_newer_place, put_entry, put_flag, put_place, put_version}
+use Rattle.pg_server.specs.pg_pieces.pg_store.declared.store.Store.{Store}
+use Rattle.pg_server.specs.pg_pieces.pg_store.Births.{has_birth}
+use Rattle.pg_server.specs.pg_pieces.pg_store.Links.{is_new_link, knows_later, put_link}
+use Rattle.pg_server.specs.pg_pieces.pg_store.Seen.{server_of}
+use Rattle.pg_server.specs.pg_pieces.pg_store.Store.{is_new_version, is_newer_entry, is_newer_flag, is_newer_place, put_entry, put_flag, put_place, put_version}
 use Rattle.pg_server.specs.pg_pieces.declared.accepting.EdgeUse.{EdgeUse}
 use Rattle.pg_server.specs.pg_pieces.declared.accepting.EdgeUse.TheVariants as manner
 use Rattle.pg_server.specs.pg_pieces.Accepting.{accept, link_peer, met, with_gone}

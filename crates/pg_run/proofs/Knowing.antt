@@ -9,9 +9,9 @@ use Rattle.pg_content.specs.Content.{Among}
 use Rattle.pg_content.proofs.Members.{among_map}
 use Rattle.pg_register.specs.declared.flag.Flag.{Flag}
 use Rattle.pg_register.specs.declared.place.Place.{Place}
-use Rattle.pg_msg.specs.declared.update.Update.{Update}
-use Rattle.pg_house.specs.Returning.{is_root}
-use Rattle.pg_house.proofs.Truths.{chosen}
+use Rattle.pg_server.specs.pg_pieces.pg_msg.declared.update.Update.{Update}
+use Rattle.pg_server.specs.pg_pieces.pg_house.Returning.{is_root}
+use Rattle.pg_server.proofs.pg_pieces.pg_house.Truths.{chosen}
 use Rattle.pg_run.specs.Took.{Take, Taker, begun_by, held, stamp_taken_by, stamps_taken, take_of}
 use Rattle.pg_run.specs.Took.Taker.{InDir, Itself}
 use Rattle.pg_run.specs.Took.Take.{Began, TookFlag, TookPlace, TookVersion}

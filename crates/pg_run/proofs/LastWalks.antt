@@ -9,16 +9,16 @@ use Rattle.std.proofs.lemmas.Option.{get_or_from_slice_get, none-some, same_Some
 use Rattle.pg_base.specs.declared.id.FileId.{FileId}
 use Rattle.pg_content.specs.Content.{Among}
 use Rattle.pg_edges.specs.declared.edge.Edge.{Edge}
-use Rattle.pg_msg.specs.declared.message.Ends.{Ends}
-use Rattle.pg_msg.specs.declared.message.Message.{Message}
-use Rattle.pg_msg.specs.declared.message.Message.TheVariants as message
-use Rattle.pg_msg.specs.declared.message.Sent.{Sent}
-use Rattle.pg_msg.specs.declared.work.Work.{Work}
-use Rattle.pg_msg.specs.Work.{new_work}
-use Rattle.pg_store.specs.declared.store.Store.{Store}
-use Rattle.pg_store.specs.Births.{birth_of}
-use Rattle.pg_store.specs.Seen.{removed_of, server_of}
-use Rattle.pg_store.specs.Store.{is_before_clock_end}
+use Rattle.pg_server.specs.pg_pieces.pg_msg.declared.message.Ends.{Ends}
+use Rattle.pg_server.specs.pg_pieces.pg_msg.declared.message.Message.{Message}
+use Rattle.pg_server.specs.pg_pieces.pg_msg.declared.message.Message.TheVariants as message
+use Rattle.pg_server.specs.pg_pieces.pg_msg.declared.message.Sent.{Sent}
+use Rattle.pg_server.specs.pg_pieces.pg_msg.declared.work.Work.{Work}
+use Rattle.pg_server.specs.pg_pieces.pg_msg.Work.{new_work}
+use Rattle.pg_server.specs.pg_pieces.pg_store.declared.store.Store.{Store}
+use Rattle.pg_server.specs.pg_pieces.pg_store.Births.{birth_of}
+use Rattle.pg_server.specs.pg_pieces.pg_store.Seen.{removed_of, server_of}
+use Rattle.pg_server.specs.pg_pieces.pg_store.Store.{is_before_clock_end}
 use Rattle.pg_server.specs.pg_pieces.declared.accepting.EdgeUse.TheVariants as manner
 use Rattle.pg_server.specs.pg_pieces.Accepting.{accept, is_accepted}
 use Rattle.pg_server.specs.pg_pieces.Done.{Done, idle}
@@ -31,13 +31,13 @@ use Rattle.pg_server.specs.pg_intentions.Inviting.{first_loose, invite_along, in
 use Rattle.pg_server.specs.pg_repair.Granting.{grant}
 use Rattle.pg_server.specs.pg_graph.Seeking.{seek}
 use Rattle.pg_server.specs.pg_repair.Telling.{tell}
-use Rattle.pg_call.specs.declared.call.Call.{Call}
-use Rattle.pg_call.specs.declared.call.Call.TheVariants as call
-use Rattle.pg_call.specs.declared.reply.Reply.TheVariants as reply
-use Rattle.pg_lookup.specs.declared.paths.LookupError.{LookupError}
-use Rattle.pg_store.specs.Views.{enter}
-use Rattle.pg_names.specs.declared.attributes.Attributes.{Attributes}
-use Rattle.pg_names.specs.Names.{own_at}
+use Rattle.pg_server.specs.pg_pieces.pg_call.declared.call.Call.{Call}
+use Rattle.pg_server.specs.pg_pieces.pg_call.declared.call.Call.TheVariants as call
+use Rattle.pg_server.specs.pg_pieces.pg_call.declared.reply.Reply.TheVariants as reply
+use Rattle.pg_server.specs.pg_checks.pg_lookup.declared.paths.LookupError.{LookupError}
+use Rattle.pg_server.specs.pg_pieces.pg_store.Views.{enter}
+use Rattle.pg_server.specs.pg_pieces.pg_names.declared.attributes.Attributes.{Attributes}
+use Rattle.pg_server.specs.pg_pieces.pg_names.Names.{own_at}
 use Rattle.pg_server.specs.pg_checks.Answer.{Answer, answer, answered, told}
 use Rattle.pg_server.specs.pg_calls.Calls.{do_call}
 use Rattle.pg_server.specs.pg_calls.GivingUp.{doubt_all, enter_view, removal_at}

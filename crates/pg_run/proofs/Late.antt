@@ -10,10 +10,10 @@ use Rattle.theory_flood.specs.Promises.Saying.{CellFor, Other}
 use Rattle.theory_flood.specs.Server.{Slot}
 use Rattle.theory_flood_pieces.specs.Seen.{cells, head_cell, says, saying}
 use Rattle.theory_flood_pieces.proofs.Sending.{harbinger_says}
-use Rattle.pg_msg.specs.declared.message.Ends.{Ends}
-use Rattle.pg_msg.specs.declared.message.Message.{Message}
-use Rattle.pg_msg.specs.declared.message.Message.TheVariants as message
-use Rattle.pg_msg.specs.declared.message.Sent.{Sent}
+use Rattle.pg_server.specs.pg_pieces.pg_msg.declared.message.Ends.{Ends}
+use Rattle.pg_server.specs.pg_pieces.pg_msg.declared.message.Message.{Message}
+use Rattle.pg_server.specs.pg_pieces.pg_msg.declared.message.Message.TheVariants as message
+use Rattle.pg_server.specs.pg_pieces.pg_msg.declared.message.Sent.{Sent}
 use Rattle.pg_run.specs.Ruled.{late_in, said_late}
 use Rattle.pg_run.proofs.Lists.{among_contained, among_pieces, contained_among, pieces_among}
 

@@ -5,23 +5,23 @@ use Rattle.std.proofs.Math.Seq.{drop-append_seam}
 use Rattle.std.proofs.lemmas.List.{append-nil, append_assoc}
 use Rattle.pg_base.specs.declared.id.FileId.{FileId}
 use Rattle.pg_register.specs.Place.{root, tilde_name}
-use Rattle.pg_msg.specs.declared.update.Update.{Update}
-use Rattle.pg_msg.specs.declared.update.Update.TheVariants as update
-use Rattle.pg_msg.specs.Work.{with_made, with_touched}
+use Rattle.pg_server.specs.pg_pieces.pg_msg.declared.update.Update.{Update}
+use Rattle.pg_server.specs.pg_pieces.pg_msg.declared.update.Update.TheVariants as update
+use Rattle.pg_server.specs.pg_pieces.pg_msg.Work.{with_made, with_touched}
 use Rattle.pg_edges.specs.declared.key.Key.TheVariants as key
-use Rattle.pg_names.specs.Names.{directories}
-use Rattle.pg_house.specs.Work.{State, state_of}
-use Rattle.pg_house.specs.Passing.{pass_all}
-use Rattle.pg_house.specs.Placing.{drawn, live_place, made_at, place_at, placed, repeated}
-use Rattle.pg_house.specs.Returning.{first_returning, return_first, returned}
-use Rattle.pg_house.specs.Cycles.{break_first, first_moving, moved}
-use Rattle.pg_house.specs.House.{house, movable}
-use Rattle.pg_house.proofs.Truths.{chosen}
-use Rattle.pg_house.proofs.Made.{all_made, left_made, pass_made}
-use Rattle.pg_call.specs.declared.reply.Reply.{Reply}
-use Rattle.pg_msg.specs.declared.work.Work.{Work}
-use Rattle.pg_store.specs.declared.store.Store.{Store}
-use Rattle.pg_store.specs.Store.{is_newer_flag}
+use Rattle.pg_server.specs.pg_pieces.pg_names.Names.{directories}
+use Rattle.pg_server.specs.pg_pieces.pg_house.Work.{State, state_of}
+use Rattle.pg_server.specs.pg_pieces.pg_house.Passing.{pass_all}
+use Rattle.pg_server.specs.pg_pieces.pg_house.Placing.{drawn, live_place, made_at, place_at, placed, repeated}
+use Rattle.pg_server.specs.pg_pieces.pg_house.Returning.{first_returning, return_first, returned}
+use Rattle.pg_server.specs.pg_pieces.pg_house.Cycles.{break_first, first_moving, moved}
+use Rattle.pg_server.specs.pg_pieces.pg_house.House.{house, movable}
+use Rattle.pg_server.proofs.pg_pieces.pg_house.Truths.{chosen}
+use Rattle.pg_server.proofs.pg_pieces.pg_house.Made.{all_made, left_made, pass_made}
+use Rattle.pg_server.specs.pg_pieces.pg_call.declared.reply.Reply.{Reply}
+use Rattle.pg_server.specs.pg_pieces.pg_msg.declared.work.Work.{Work}
+use Rattle.pg_server.specs.pg_pieces.pg_store.declared.store.Store.{Store}
+use Rattle.pg_server.specs.pg_pieces.pg_store.Store.{is_newer_flag}
 use Rattle.pg_server.specs.pg_pieces.Done.{Done}
 use Rattle.pg_server.specs.pg_pieces.Making.{own_next, raise_flag}
 use Rattle.pg_server.specs.pg_cells.Settling.{rules, settle}

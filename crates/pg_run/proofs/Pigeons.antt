@@ -7,13 +7,13 @@ use Rattle.std.proofs.lemmas.Bool.{cases_lt, false≢true, not_from_false}
 use Rattle.pg_base.specs.declared.id.FileId.{FileId}
 use Rattle.pg_base.specs.Id.{is_same_file}
 use Rattle.pg_base.proofs.Orders.{is_same_file-true}
-use Rattle.pg_names.specs.Names.{NamesValue, directories, is_dir}
-use Rattle.pg_house.specs.Cycles.{climb, first_moving, is_inner, is_lost, latest_member, least}
-use Rattle.pg_house.specs.Facts.{NoCycle, is_among}
-use Rattle.pg_house.proofs.AllClimb.{climb_add, inner_below}
-use Rattle.pg_house.proofs.Counting.{among_kept}
-use Rattle.pg_house.proofs.Ends.{key_of_held}
-use Rattle.pg_house.proofs.NoCycles.{inner_parts}
+use Rattle.pg_server.specs.pg_pieces.pg_names.Names.{NamesValue, directories, is_dir}
+use Rattle.pg_server.specs.pg_pieces.pg_house.Cycles.{climb, first_moving, is_inner, is_lost, latest_member, least}
+use Rattle.pg_server.specs.pg_pieces.pg_house.Facts.{NoCycle, is_among}
+use Rattle.pg_server.proofs.pg_pieces.pg_house.AllClimb.{climb_add, inner_below}
+use Rattle.pg_server.proofs.pg_pieces.pg_house.Counting.{among_kept}
+use Rattle.pg_server.proofs.pg_pieces.pg_house.Ends.{key_of_held}
+use Rattle.pg_server.proofs.pg_pieces.pg_house.NoCycles.{inner_parts}
 
 -- ---- one thing is looked for
 

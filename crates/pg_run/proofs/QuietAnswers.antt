@@ -1,13 +1,13 @@
 -- A world is told to be quiet exactly where it is.
 use Rattle.std.proofs.Common.{[], ℕ, ◌≡◌, ◌≤◌, ◌==◌, Bool, true, false, cond, List, ◌∷◌, ◌++◌, length, map, refl, sym, ap, ◌∙◌, inl, inr, ◌⊎◌, arith, zero, suc, eq-eqb}
 use Rattle.std.proofs.lemmas.Bool.{cases_lt, eqb-true}
-use Rattle.pg_msg.specs.declared.message.Sent.{Sent}
-use Rattle.pg_msg.specs.Sent.{summary}
+use Rattle.pg_server.specs.pg_pieces.pg_msg.declared.message.Sent.{Sent}
+use Rattle.pg_server.specs.pg_pieces.pg_msg.Sent.{summary}
 use Rattle.pg_event.specs.declared.quiet.Cause.{Cause}
 use Rattle.pg_event.specs.declared.quiet.Cause.TheVariants.{Message, Owed, View}
 use Rattle.pg_event.specs.declared.quiet.Quiet.TheVariants.{Quiet}
 use Rattle.pg_server.specs.Owing.{owed}
-use Rattle.pg_store.specs.Seen.{view_of}
+use Rattle.pg_server.specs.pg_pieces.pg_store.Seen.{view_of}
 use Rattle.pg_run.specs.Journal.{bag, removals}
 use Rattle.pg_run.specs.Run.{World, is_live}
 use Rattle.pg_run.specs.Quiet.{IsQuiet, causes, first_of, lag, of_live, quiet_of}

@@ -6,13 +6,13 @@ use Rattle.pg_base.specs.declared.id.Kind.TheVariants.{Dir}
 use Rattle.pg_base.specs.declared.id.FileId.{FileId}
 use Rattle.pg_register.specs.declared.place.Place.{Place}
 use Rattle.pg_register.specs.Place.{root}
-use Rattle.pg_call.specs.declared.call.Call.TheVariants.{Ls, Mkdir, Rmdir}
+use Rattle.pg_server.specs.pg_pieces.pg_call.declared.call.Call.TheVariants.{Ls, Mkdir, Rmdir}
 use Rattle.pg_event.specs.declared.event.Event.{Event}
 use Rattle.pg_event.specs.declared.event.Event.TheVariants.{Call, Deliver}
-use Rattle.pg_house.specs.Holding.{held_back}
-use Rattle.pg_names.specs.declared.attributes.Attributes.{Attributes}
-use Rattle.pg_names.specs.Names.{cell_at, own_at}
-use Rattle.pg_store.specs.Births.{birth_of}
+use Rattle.pg_server.specs.pg_pieces.pg_house.Holding.{held_back}
+use Rattle.pg_server.specs.pg_pieces.pg_names.declared.attributes.Attributes.{Attributes}
+use Rattle.pg_server.specs.pg_pieces.pg_names.Names.{cell_at, own_at}
+use Rattle.pg_server.specs.pg_pieces.pg_store.Births.{birth_of}
 use Rattle.pg_run.specs.Journal.{bag}
 use Rattle.pg_run.specs.State.{entry_state, own_state}
 use Rattle.pg_run.specs.Took.{is_held}

@@ -11,33 +11,33 @@ use Rattle.pg_edges.specs.declared.key.Key.TheVariants as key
 use Rattle.pg_entries.specs.declared.cell.Cell.{Cell}
 use Rattle.pg_entries.specs.declared.cell.Cell.TheVariants as cells
 use Rattle.pg_entries.specs.declared.entry.Entry.{Entry}
-use Rattle.pg_house.specs.Work.{is_root, note_left}
-use Rattle.pg_intent.specs.declared.intent.Intent.{Intent}
-use Rattle.pg_intent.specs.Intent.{key_of}
-use Rattle.pg_intent.specs.Intents.{stands}
-use Rattle.pg_msg.specs.declared.message.Ask.TheVariants as ask
-use Rattle.pg_msg.specs.declared.message.Ends.{Ends}
-use Rattle.pg_msg.specs.declared.message.Granted.{Granted}
-use Rattle.pg_msg.specs.declared.message.Message.{Message}
-use Rattle.pg_msg.specs.declared.message.Message.TheVariants as message
-use Rattle.pg_msg.specs.declared.message.Sent.{Sent}
-use Rattle.pg_msg.specs.declared.summary.Greeting.TheVariants as greeting
-use Rattle.pg_msg.specs.declared.update.Update.TheVariants as update
-use Rattle.pg_msg.specs.declared.work.Work.{Work}
-use Rattle.pg_msg.specs.Ends.{back}
-use Rattle.pg_msg.specs.Sent.{cell_key}
-use Rattle.pg_msg.specs.Work.{with_begun, with_left, with_linked, with_made, with_touched, with_unsure}
-use Rattle.pg_names.specs.Names.{own_or_blank}
-use Rattle.pg_names.specs.Names as names
+use Rattle.pg_server.specs.pg_pieces.pg_house.Work.{is_root, note_left}
+use Rattle.pg_server.specs.pg_pieces.pg_intent.declared.intent.Intent.{Intent}
+use Rattle.pg_server.specs.pg_pieces.pg_intent.Intent.{key_of}
+use Rattle.pg_server.specs.pg_pieces.pg_intent.Intents.{stands}
+use Rattle.pg_server.specs.pg_pieces.pg_msg.declared.message.Ask.TheVariants as ask
+use Rattle.pg_server.specs.pg_pieces.pg_msg.declared.message.Ends.{Ends}
+use Rattle.pg_server.specs.pg_pieces.pg_msg.declared.message.Granted.{Granted}
+use Rattle.pg_server.specs.pg_pieces.pg_msg.declared.message.Message.{Message}
+use Rattle.pg_server.specs.pg_pieces.pg_msg.declared.message.Message.TheVariants as message
+use Rattle.pg_server.specs.pg_pieces.pg_msg.declared.message.Sent.{Sent}
+use Rattle.pg_server.specs.pg_pieces.pg_msg.declared.summary.Greeting.TheVariants as greeting
+use Rattle.pg_server.specs.pg_pieces.pg_msg.declared.update.Update.TheVariants as update
+use Rattle.pg_server.specs.pg_pieces.pg_msg.declared.work.Work.{Work}
+use Rattle.pg_server.specs.pg_pieces.pg_msg.Ends.{back}
+use Rattle.pg_server.specs.pg_pieces.pg_msg.Sent.{cell_key}
+use Rattle.pg_server.specs.pg_pieces.pg_msg.Work.{with_begun, with_left, with_linked, with_made, with_touched, with_unsure}
+use Rattle.pg_server.specs.pg_pieces.pg_names.Names.{own_or_blank}
+use Rattle.pg_server.specs.pg_pieces.pg_names.Names as names
 use Rattle.theory_flood_pieces.proofs.Choices.{chosen, decided}
 use Rattle.pg_register.specs.declared.flag.Flag.{Flag}
 use Rattle.pg_register.specs.declared.place.Place.{Place}
-use Rattle.pg_replica.specs.declared.replica.Replica.{Replica}
-use Rattle.pg_store.specs.declared.store.Store.{Store}
-use Rattle.pg_store.specs.Births.{birth_of, has_birth, is_pending}
-use Rattle.pg_store.specs.Links.{is_clean, is_new_link, knows_later}
-use Rattle.pg_store.specs.Seen.{server_of}
-use Rattle.pg_store.specs.Store.{entry_news, is_full, is_held, is_new_version, is_newer_flag, is_newer_place, replica_at, with_names}
+use Rattle.pg_server.specs.pg_pieces.pg_replica.declared.replica.Replica.{Replica}
+use Rattle.pg_server.specs.pg_pieces.pg_store.declared.store.Store.{Store}
+use Rattle.pg_server.specs.pg_pieces.pg_store.Births.{birth_of, has_birth, is_pending}
+use Rattle.pg_server.specs.pg_pieces.pg_store.Links.{is_clean, is_new_link, knows_later}
+use Rattle.pg_server.specs.pg_pieces.pg_store.Seen.{server_of}
+use Rattle.pg_server.specs.pg_pieces.pg_store.Store.{entry_news, is_full, is_held, is_new_version, is_newer_flag, is_newer_place, replica_at, with_names}
 use Rattle.pg_server.specs.pg_pieces.declared.accepting.EdgeUse.{EdgeUse}
 use Rattle.pg_server.specs.pg_pieces.declared.accepting.EdgeUse.TheVariants as manner
 use Rattle.pg_server.specs.pg_pieces.Accepting.{accept, ends_to, is_accepted, is_answer, link_peer, met, with_gone}

@@ -3,16 +3,16 @@ use Rattle.std.proofs.Common.{ℕ, ◌≡◌, not, List, [], ◌∷◌, All}
 use Rattle.pg_base.specs.declared.id.FileId.{FileId}
 use Rattle.pg_base.specs.declared.stamp.Stamp.{Stamp}
 use Rattle.pg_edges.specs.declared.edge.Edge.{Edge}
-use Rattle.pg_intent.specs.Intent.{key_of}
-use Rattle.pg_intent.specs.Intents.{stands}
-use Rattle.pg_msg.specs.declared.message.Ends.{Ends}
-use Rattle.pg_msg.specs.declared.message.Sent.{Sent}
-use Rattle.pg_msg.specs.declared.work.Work.{Work}
-use Rattle.pg_msg.specs.Work.{with_begun}
-use Rattle.pg_store.specs.declared.store.Store.{Store}
-use Rattle.pg_store.specs.Beginning.{let_go}
-use Rattle.pg_store.specs.Births.{birth_of}
-use Rattle.pg_store.specs.Store.{replica_of}
+use Rattle.pg_server.specs.pg_pieces.pg_intent.Intent.{key_of}
+use Rattle.pg_server.specs.pg_pieces.pg_intent.Intents.{stands}
+use Rattle.pg_server.specs.pg_pieces.pg_msg.declared.message.Ends.{Ends}
+use Rattle.pg_server.specs.pg_pieces.pg_msg.declared.message.Sent.{Sent}
+use Rattle.pg_server.specs.pg_pieces.pg_msg.declared.work.Work.{Work}
+use Rattle.pg_server.specs.pg_pieces.pg_msg.Work.{with_begun}
+use Rattle.pg_server.specs.pg_pieces.pg_store.declared.store.Store.{Store}
+use Rattle.pg_server.specs.pg_pieces.pg_store.Beginning.{let_go}
+use Rattle.pg_server.specs.pg_pieces.pg_store.Births.{birth_of}
+use Rattle.pg_server.specs.pg_pieces.pg_store.Store.{replica_of}
 use Rattle.pg_server.specs.pg_graph.Leaving.{begin_byes, bye_to, goes, goes_or_stays, leave_ok, may_leave, without_leave}
 use Rattle.pg_server.specs.pg_pieces.Done.{Done, idle}
 use Rattle.pg_server.specs.pg_pieces.Intending.{begin_intent}

@@ -5,17 +5,17 @@ use Rattle.std.specs.Map.{keys_of}
 use Rattle.std.proofs.lemmas.List.Elements.{All-push}
 use Rattle.pg_base.specs.declared.id.FileId.{FileId}
 use Rattle.pg_edges.specs.declared.edge.Edge.{Edge}
-use Rattle.pg_msg.specs.declared.message.Message.TheVariants as message
-use Rattle.pg_msg.specs.declared.message.Sent.{Sent}
-use Rattle.pg_msg.specs.declared.update.Update.TheVariants as update
-use Rattle.pg_msg.specs.declared.work.Work.{Work}
-use Rattle.pg_msg.specs.Work.{with_made}
-use Rattle.pg_names.specs.Names.{blank_own, is_dir}
+use Rattle.pg_server.specs.pg_pieces.pg_msg.declared.message.Message.TheVariants as message
+use Rattle.pg_server.specs.pg_pieces.pg_msg.declared.message.Sent.{Sent}
+use Rattle.pg_server.specs.pg_pieces.pg_msg.declared.update.Update.TheVariants as update
+use Rattle.pg_server.specs.pg_pieces.pg_msg.declared.work.Work.{Work}
+use Rattle.pg_server.specs.pg_pieces.pg_msg.Work.{with_made}
+use Rattle.pg_server.specs.pg_pieces.pg_names.Names.{blank_own, is_dir}
 use Rattle.theory_flood_pieces.proofs.Choices.{chosen}
 use Rattle.pg_register.specs.declared.place.Place.{Place}
-use Rattle.pg_store.specs.declared.store.Store.{Store}
-use Rattle.pg_store.specs.Store.{is_held}
-use Rattle.pg_store.specs.Views.{enter}
+use Rattle.pg_server.specs.pg_pieces.pg_store.declared.store.Store.{Store}
+use Rattle.pg_server.specs.pg_pieces.pg_store.Store.{is_held}
+use Rattle.pg_server.specs.pg_pieces.pg_store.Views.{enter}
 use Rattle.pg_server.specs.pg_pieces.Accepting.{ends_to}
 use Rattle.pg_server.specs.pg_pieces.Done.{Done, idle}
 use Rattle.pg_server.specs.pg_pieces.Posting.{sent_to}

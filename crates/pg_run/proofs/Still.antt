@@ -6,16 +6,16 @@ use Rattle.pg_base.specs.Version.{VersionValue}
 use Rattle.pg_edges.specs.declared.key.Key.{Key}
 use Rattle.pg_edges.specs.declared.key.Key.TheVariants as key
 use Rattle.pg_entries.specs.declared.entry.Entry.{Entry}
-use Rattle.pg_house.specs.Work.{is_root, note_left}
-use Rattle.pg_intent.specs.declared.key.IntentKey.{IntentKey}
-use Rattle.pg_msg.specs.declared.work.Work.{Work}
-use Rattle.pg_msg.specs.Work.{with_begun, with_left, with_linked, with_touched, with_unsure}
-use Rattle.pg_names.specs.Names.{own_or_blank}
+use Rattle.pg_server.specs.pg_pieces.pg_house.Work.{is_root, note_left}
+use Rattle.pg_server.specs.pg_pieces.pg_intent.declared.key.IntentKey.{IntentKey}
+use Rattle.pg_server.specs.pg_pieces.pg_msg.declared.work.Work.{Work}
+use Rattle.pg_server.specs.pg_pieces.pg_msg.Work.{with_begun, with_left, with_linked, with_touched, with_unsure}
+use Rattle.pg_server.specs.pg_pieces.pg_names.Names.{own_or_blank}
 use Rattle.pg_register.specs.declared.flag.Flag.{Flag}
 use Rattle.pg_register.specs.declared.place.Place.{Place}
-use Rattle.pg_store.specs.declared.store.Store.{Store}
-use Rattle.pg_store.specs.Links.{is_new_link}
-use Rattle.pg_store.specs.Store.{entry_news, is_new_version, is_newer_flag, is_newer_place}
+use Rattle.pg_server.specs.pg_pieces.pg_store.declared.store.Store.{Store}
+use Rattle.pg_server.specs.pg_pieces.pg_store.Links.{is_new_link}
+use Rattle.pg_server.specs.pg_pieces.pg_store.Store.{entry_news, is_new_version, is_newer_flag, is_newer_place}
 use Rattle.pg_server.specs.pg_pieces.Accepting.{link_peer, with_link}
 use Rattle.pg_server.specs.pg_pieces.Intending.{with_begun_if}
 use Rattle.pg_server.specs.pg_pieces.Taking.{is_any_news, is_place_news, take_entry_cell, take_entry_noted, take_flag_noted, take_place_noted, take_version_noted, with_doubt, with_left_if, with_news}

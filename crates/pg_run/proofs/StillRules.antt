@@ -6,19 +6,19 @@ use Rattle.std.proofs.lemmas.Bool.{not-true}
 use Rattle.pg_base.specs.declared.id.FileId.{FileId}
 use Rattle.pg_base.specs.Id.{is_same_file}
 use Rattle.pg_register.specs.Place.{root}
-use Rattle.pg_msg.specs.declared.work.Work.{Work}
-use Rattle.pg_names.specs.Names.{NamesValue, directories}
-use Rattle.pg_house.specs.Work.{State, state_of}
-use Rattle.pg_house.specs.Cycles.{break_first}
-use Rattle.pg_house.specs.Facts.{AreOrdered, is_among}
-use Rattle.pg_house.specs.House.{house, movable}
-use Rattle.pg_house.specs.Passing.{pass_all}
-use Rattle.pg_house.specs.Placing.{repeated}
-use Rattle.pg_house.specs.Returning.{is_root, return_first}
-use Rattle.pg_house.proofs.Counting.{kept_dir}
-use Rattle.pg_house.proofs.Repeating as repeating
-use Rattle.pg_house.proofs.Repeating.{none_returns, repeated_still}
-use Rattle.pg_house.proofs.Settling.{all_idle, dirs_held, none_returns_at}
+use Rattle.pg_server.specs.pg_pieces.pg_msg.declared.work.Work.{Work}
+use Rattle.pg_server.specs.pg_pieces.pg_names.Names.{NamesValue, directories}
+use Rattle.pg_server.specs.pg_pieces.pg_house.Work.{State, state_of}
+use Rattle.pg_server.specs.pg_pieces.pg_house.Cycles.{break_first}
+use Rattle.pg_server.specs.pg_pieces.pg_house.Facts.{AreOrdered, is_among}
+use Rattle.pg_server.specs.pg_pieces.pg_house.House.{house, movable}
+use Rattle.pg_server.specs.pg_pieces.pg_house.Passing.{pass_all}
+use Rattle.pg_server.specs.pg_pieces.pg_house.Placing.{repeated}
+use Rattle.pg_server.specs.pg_pieces.pg_house.Returning.{is_root, return_first}
+use Rattle.pg_server.proofs.pg_pieces.pg_house.Counting.{kept_dir}
+use Rattle.pg_server.proofs.pg_pieces.pg_house.Repeating as repeating
+use Rattle.pg_server.proofs.pg_pieces.pg_house.Repeating.{none_returns, repeated_still}
+use Rattle.pg_server.proofs.pg_pieces.pg_house.Settling.{all_idle, dirs_held, none_returns_at}
 use Rattle.pg_run.specs.Laws.{IsInOrder}
 use Rattle.pg_run.proofs.Pigeons.{none_moves}
 

@@ -10,17 +10,17 @@ use Rattle.pg_content.proofs.Members.{among_filter, map_among}
 use Rattle.pg_register.specs.declared.place.Place.{Place}
 use Rattle.pg_edges.specs.declared.key.Key.{Key}
 use Rattle.pg_edges.specs.declared.key.Key.TheVariants as key
-use Rattle.pg_msg.specs.declared.update.Update.{Update}
-use Rattle.pg_msg.specs.declared.update.Update.TheVariants as update
-use Rattle.pg_msg.specs.declared.work.Work.{Work}
-use Rattle.pg_msg.specs.Work.{new_work, with_made}
-use Rattle.pg_call.specs.declared.call.Call.{Call}
-use Rattle.pg_call.specs.declared.call.Call.TheVariants as call
-use Rattle.pg_call.specs.declared.reply.Reply.TheVariants as reply
-use Rattle.pg_names.specs.Names.{NamesValue, cell_at, is_dir}
-use Rattle.pg_lookup.specs.declared.paths.LookupError.{LookupError}
-use Rattle.pg_store.specs.declared.store.Store.{Store}
-use Rattle.pg_store.specs.Store.{entry_news, is_held}
+use Rattle.pg_server.specs.pg_pieces.pg_msg.declared.update.Update.{Update}
+use Rattle.pg_server.specs.pg_pieces.pg_msg.declared.update.Update.TheVariants as update
+use Rattle.pg_server.specs.pg_pieces.pg_msg.declared.work.Work.{Work}
+use Rattle.pg_server.specs.pg_pieces.pg_msg.Work.{new_work, with_made}
+use Rattle.pg_server.specs.pg_pieces.pg_call.declared.call.Call.{Call}
+use Rattle.pg_server.specs.pg_pieces.pg_call.declared.call.Call.TheVariants as call
+use Rattle.pg_server.specs.pg_pieces.pg_call.declared.reply.Reply.TheVariants as reply
+use Rattle.pg_server.specs.pg_pieces.pg_names.Names.{NamesValue, cell_at, is_dir}
+use Rattle.pg_server.specs.pg_checks.pg_lookup.declared.paths.LookupError.{LookupError}
+use Rattle.pg_server.specs.pg_pieces.pg_store.declared.store.Store.{Store}
+use Rattle.pg_server.specs.pg_pieces.pg_store.Store.{entry_news, is_held}
 use Rattle.pg_server.specs.pg_pieces.Done.{Done}
 use Rattle.pg_server.specs.pg_pieces.Taking.{is_any_news, with_news}
 use Rattle.pg_server.specs.pg_checks.Answer.{Answer, answer, answered}

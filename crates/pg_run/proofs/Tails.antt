@@ -12,26 +12,26 @@ use Rattle.pg_entries.specs.declared.cell.Cell.{Cell}
 use Rattle.pg_entries.specs.declared.cell.Cell.TheVariants as cells
 use Rattle.pg_entries.specs.declared.entry.Entry.{Entry}
 use Rattle.pg_base.specs.declared.head.Head.{Head}
-use Rattle.pg_msg.specs.declared.message.Delta.{Delta}
-use Rattle.pg_msg.specs.declared.message.Ends.{Ends}
-use Rattle.pg_msg.specs.declared.message.Granted.{Granted}
-use Rattle.pg_msg.specs.declared.message.Piece.{Piece}
-use Rattle.pg_msg.specs.declared.message.Wanted.{Wanted}
-use Rattle.pg_msg.specs.declared.message.Message.TheVariants as message
-use Rattle.pg_msg.specs.declared.update.Update.TheVariants as update
-use Rattle.pg_msg.specs.declared.work.Work.{Work}
-use Rattle.pg_msg.specs.Work.{with_begun, with_left, with_made}
-use Rattle.pg_intent.specs.declared.intent.Intent.{Intent}
-use Rattle.pg_intent.specs.Intent.{key_of}
-use Rattle.pg_intent.specs.Intents.{stands}
-use Rattle.pg_names.specs.Names.{own_or_blank}
-use Rattle.pg_house.specs.Work.{is_root, note_left}
-use Rattle.pg_replica.specs.declared.replica.Replica.{Replica}
-use Rattle.pg_store.specs.declared.store.Store.{Store}
-use Rattle.pg_store.specs.Beginning.{let_go}
-use Rattle.pg_store.specs.Births.{birth_of, has_birth, is_pending}
-use Rattle.pg_store.specs.Links.{is_clean, is_new_link, knows_later}
-use Rattle.pg_store.specs.Store.{entry_news, is_full, is_held, is_new_version, is_newer_flag, is_newer_place, replica_at, replica_of, with_names}
+use Rattle.pg_server.specs.pg_pieces.pg_msg.declared.message.Delta.{Delta}
+use Rattle.pg_server.specs.pg_pieces.pg_msg.declared.message.Ends.{Ends}
+use Rattle.pg_server.specs.pg_pieces.pg_msg.declared.message.Granted.{Granted}
+use Rattle.pg_server.specs.pg_pieces.pg_msg.declared.message.Piece.{Piece}
+use Rattle.pg_server.specs.pg_pieces.pg_msg.declared.message.Wanted.{Wanted}
+use Rattle.pg_server.specs.pg_pieces.pg_msg.declared.message.Message.TheVariants as message
+use Rattle.pg_server.specs.pg_pieces.pg_msg.declared.update.Update.TheVariants as update
+use Rattle.pg_server.specs.pg_pieces.pg_msg.declared.work.Work.{Work}
+use Rattle.pg_server.specs.pg_pieces.pg_msg.Work.{with_begun, with_left, with_made}
+use Rattle.pg_server.specs.pg_pieces.pg_intent.declared.intent.Intent.{Intent}
+use Rattle.pg_server.specs.pg_pieces.pg_intent.Intent.{key_of}
+use Rattle.pg_server.specs.pg_pieces.pg_intent.Intents.{stands}
+use Rattle.pg_server.specs.pg_pieces.pg_names.Names.{own_or_blank}
+use Rattle.pg_server.specs.pg_pieces.pg_house.Work.{is_root, note_left}
+use Rattle.pg_server.specs.pg_pieces.pg_replica.declared.replica.Replica.{Replica}
+use Rattle.pg_server.specs.pg_pieces.pg_store.declared.store.Store.{Store}
+use Rattle.pg_server.specs.pg_pieces.pg_store.Beginning.{let_go}
+use Rattle.pg_server.specs.pg_pieces.pg_store.Births.{birth_of, has_birth, is_pending}
+use Rattle.pg_server.specs.pg_pieces.pg_store.Links.{is_clean, is_new_link, knows_later}
+use Rattle.pg_server.specs.pg_pieces.pg_store.Store.{entry_news, is_full, is_held, is_new_version, is_newer_flag, is_newer_place, replica_at, replica_of, with_names}
 use Rattle.pg_server.specs.pg_pieces.declared.accepting.EdgeUse.{EdgeUse}
 use Rattle.pg_server.specs.pg_pieces.declared.accepting.EdgeUse.TheVariants as manner
 use Rattle.pg_server.specs.pg_pieces.Accepting.{accept, is_accepted, is_answer, link_peer, met, with_gone, with_link}
@@ -58,7 +58,7 @@ use Rattle.pg_server.specs.pg_transfer.Piece.{piece}
 use Rattle.pg_server.specs.pg_transfer.Want.{want}
 use Rattle.theory_flood_pieces.proofs.Choices.{chosen}
 use Rattle.pg_run.proofs.Transferring.{OutlivesSteps, delta_has, harbinger_has, later_has, piece_has, want_has}
-use Rattle.pg_names.specs.Names as names
+use Rattle.pg_server.specs.pg_pieces.pg_names.Names as names
 
 -- ---- what is put last stays so
 

@@ -6,18 +6,18 @@ use Rattle.std.specs.List.{filter}
 use Rattle.pg_base.specs.declared.id.FileId.{FileId}
 use Rattle.pg_register.specs.declared.flag.Flag.{Flag}
 use Rattle.pg_register.specs.declared.place.Place.{Place}
-use Rattle.pg_msg.specs.declared.message.Message.TheVariants as message
-use Rattle.pg_msg.specs.declared.update.Update.TheVariants as update
-use Rattle.pg_msg.specs.declared.work.Work.{Work}
-use Rattle.pg_msg.specs.Work.{with_made}
-use Rattle.pg_names.specs.Names.{is_dir}
-use Rattle.pg_call.specs.declared.call.Call.{Call}
-use Rattle.pg_call.specs.declared.call.Call.TheVariants as call
-use Rattle.pg_lookup.specs.declared.paths.LookupError.{LookupError}
-use Rattle.pg_lookup.specs.declared.paths.LookupError.TheVariants as stop
-use Rattle.pg_store.specs.declared.store.Store.{Store}
-use Rattle.pg_store.specs.Births.{with_birth, with_wish}
-use Rattle.pg_store.specs.Store.{is_held, with_names}
+use Rattle.pg_server.specs.pg_pieces.pg_msg.declared.message.Message.TheVariants as message
+use Rattle.pg_server.specs.pg_pieces.pg_msg.declared.update.Update.TheVariants as update
+use Rattle.pg_server.specs.pg_pieces.pg_msg.declared.work.Work.{Work}
+use Rattle.pg_server.specs.pg_pieces.pg_msg.Work.{with_made}
+use Rattle.pg_server.specs.pg_pieces.pg_names.Names.{is_dir}
+use Rattle.pg_server.specs.pg_pieces.pg_call.declared.call.Call.{Call}
+use Rattle.pg_server.specs.pg_pieces.pg_call.declared.call.Call.TheVariants as call
+use Rattle.pg_server.specs.pg_checks.pg_lookup.declared.paths.LookupError.{LookupError}
+use Rattle.pg_server.specs.pg_checks.pg_lookup.declared.paths.LookupError.TheVariants as stop
+use Rattle.pg_server.specs.pg_pieces.pg_store.declared.store.Store.{Store}
+use Rattle.pg_server.specs.pg_pieces.pg_store.Births.{with_birth, with_wish}
+use Rattle.pg_server.specs.pg_pieces.pg_store.Store.{is_held, with_names}
 use Rattle.pg_server.specs.pg_pieces.Golds.{is_gold}
 use Rattle.pg_server.specs.pg_pieces.Done.{idle}
 use Rattle.pg_server.specs.pg_pieces.Making.{lower_flag, own_next, raise_flag}
@@ -33,10 +33,10 @@ use Rattle.pg_base.specs.declared.id.Kind.TheVariants.{Dir, File}
 use Rattle.pg_base.specs.declared.policy.Policy.{Policy}
 use Rattle.pg_base.specs.declared.policy.Policy.TheVariants.{Last}
 use Rattle.pg_patch.specs.Ranges.{RangesValue, cut_to, written}
-use Rattle.pg_names.specs.Names as names
-use Rattle.pg_lookup.specs.declared.paths.Found.{Found}
+use Rattle.pg_server.specs.pg_pieces.pg_names.Names as names
+use Rattle.pg_server.specs.pg_checks.pg_lookup.declared.paths.Found.{Found}
 use Rattle.pg_server.specs.pg_checks.declared.checks.NewName.{NewName}
-use Rattle.pg_store.specs.declared.wishes.Wish.{Wish}
+use Rattle.pg_server.specs.pg_pieces.pg_store.declared.wishes.Wish.{Wish}
 use Rattle.pg_server.specs.pg_checks.Checks.{dir_at, empty_dir_at, file_at, in_time, move_of, new_name, target_at}
 use Rattle.pg_server.specs.pg_calls.Naming.{begun, dead_place, next_id, place_in, with_id, with_thing}
 use Rattle.pg_server.specs.pg_calls.Bodies.{change, change_file, when_fit}

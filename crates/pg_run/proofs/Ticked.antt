@@ -8,21 +8,21 @@ use Rattle.pg_edges.specs.declared.edge.Edge.{Edge}
 use Rattle.pg_edges.specs.declared.key.Key.{Key}
 use Rattle.pg_edges.specs.declared.key.Key.TheVariants as key
 use Rattle.pg_entries.specs.declared.cell.Cell.{Cell}
-use Rattle.pg_intent.specs.declared.intent.Intent.{Intent}
-use Rattle.pg_intent.specs.declared.intent.Intent.TheVariants as intent
-use Rattle.pg_intent.specs.Intent.{target_of}
-use Rattle.pg_msg.specs.declared.message.Message.{Message}
-use Rattle.pg_msg.specs.declared.message.Sent.{Sent}
-use Rattle.pg_msg.specs.declared.work.Work.{Work}
-use Rattle.pg_msg.specs.Work.{new_work}
-use Rattle.pg_names.specs.declared.attributes.Attributes.{Attributes}
-use Rattle.pg_names.specs.Names.{own_at}
-use Rattle.pg_replica.specs.declared.replica.Replica.{Replica}
-use Rattle.pg_store.specs.declared.store.Store.{Store}
-use Rattle.pg_store.specs.Births.{birth_of}
-use Rattle.pg_store.specs.Cells.{cell_at}
-use Rattle.pg_store.specs.Seen.{server_of}
-use Rattle.pg_store.specs.Store.{is_before_clock_end}
+use Rattle.pg_server.specs.pg_pieces.pg_intent.declared.intent.Intent.{Intent}
+use Rattle.pg_server.specs.pg_pieces.pg_intent.declared.intent.Intent.TheVariants as intent
+use Rattle.pg_server.specs.pg_pieces.pg_intent.Intent.{target_of}
+use Rattle.pg_server.specs.pg_pieces.pg_msg.declared.message.Message.{Message}
+use Rattle.pg_server.specs.pg_pieces.pg_msg.declared.message.Sent.{Sent}
+use Rattle.pg_server.specs.pg_pieces.pg_msg.declared.work.Work.{Work}
+use Rattle.pg_server.specs.pg_pieces.pg_msg.Work.{new_work}
+use Rattle.pg_server.specs.pg_pieces.pg_names.declared.attributes.Attributes.{Attributes}
+use Rattle.pg_server.specs.pg_pieces.pg_names.Names.{own_at}
+use Rattle.pg_server.specs.pg_pieces.pg_replica.declared.replica.Replica.{Replica}
+use Rattle.pg_server.specs.pg_pieces.pg_store.declared.store.Store.{Store}
+use Rattle.pg_server.specs.pg_pieces.pg_store.Births.{birth_of}
+use Rattle.pg_server.specs.pg_pieces.pg_store.Cells.{cell_at}
+use Rattle.pg_server.specs.pg_pieces.pg_store.Seen.{server_of}
+use Rattle.pg_server.specs.pg_pieces.pg_store.Store.{is_before_clock_end}
 use Rattle.pg_server.specs.pg_cells.Sending.{Wanted, cell_under, cells_where, edge_cells, is_any, key_cell, replica_cells, waits}
 use Rattle.pg_server.specs.pg_cells.Ticks.{tick}
 use Rattle.pg_server.specs.pg_graph.Walks.{edges_of, most_hops, walk_along, walk_from, walk_of_tick, with_few_edges}

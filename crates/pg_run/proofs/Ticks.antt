@@ -11,24 +11,24 @@ use Rattle.pg_base.specs.declared.id.FileId.{FileId}
 use Rattle.pg_base.specs.Id.{file_cmp}
 use Rattle.pg_register.specs.declared.flag.Flag.{Flag}
 use Rattle.pg_register.specs.Flag.{flag_of, is_live}
-use Rattle.pg_names.specs.Names.{InodeValue, known}
+use Rattle.pg_server.specs.pg_pieces.pg_names.Names.{InodeValue, known}
 use Rattle.pg_edges.specs.declared.key.Key.{Key}
 use Rattle.pg_edges.specs.declared.edge.Edge.{Edge}
-use Rattle.pg_replica.specs.declared.replica.Replica.{Replica}
-use Rattle.pg_msg.specs.declared.message.Sent.{Sent}
-use Rattle.pg_msg.specs.declared.work.Touched.{Touched}
-use Rattle.pg_msg.specs.declared.work.Work.{Work}
-use Rattle.pg_msg.specs.Work.{new_work}
+use Rattle.pg_server.specs.pg_pieces.pg_replica.declared.replica.Replica.{Replica}
+use Rattle.pg_server.specs.pg_pieces.pg_msg.declared.message.Sent.{Sent}
+use Rattle.pg_server.specs.pg_pieces.pg_msg.declared.work.Touched.{Touched}
+use Rattle.pg_server.specs.pg_pieces.pg_msg.declared.work.Work.{Work}
+use Rattle.pg_server.specs.pg_pieces.pg_msg.Work.{new_work}
 use Rattle.pg_event.specs.declared.event.Event.{Event}
 use Rattle.pg_event.specs.declared.event.Event.TheVariants.{Restart, Tick}
-use Rattle.pg_house.specs.Facts.{AreOrdered}
-use Rattle.pg_house.specs.Work.{state_of}
+use Rattle.pg_server.specs.pg_pieces.pg_house.Facts.{AreOrdered}
+use Rattle.pg_server.specs.pg_pieces.pg_house.Work.{state_of}
 use Rattle.theory_flood.specs.World.{after}
 use Rattle.theory_flood.proofs.Flood.{after_itself, here}
-use Rattle.pg_store.specs.declared.store.Store.{Store}
-use Rattle.pg_store.specs.Births.{birth_of}
-use Rattle.pg_store.specs.Seen.{removed_of, server_of}
-use Rattle.pg_store.specs.Store.{is_before_clock_end}
+use Rattle.pg_server.specs.pg_pieces.pg_store.declared.store.Store.{Store}
+use Rattle.pg_server.specs.pg_pieces.pg_store.Births.{birth_of}
+use Rattle.pg_server.specs.pg_pieces.pg_store.Seen.{removed_of, server_of}
+use Rattle.pg_server.specs.pg_pieces.pg_store.Store.{is_before_clock_end}
 use Rattle.pg_server.specs.pg_pieces.Done.{Done, idle}
 use Rattle.pg_server.specs.pg_cells.Sending.{cells_where, edge_cells, is_any, is_chosen, key_cell, replica_cells}
 use Rattle.pg_server.specs.pg_pieces.Golds.{goldless, is_goldless, is_goldless_held, is_of_later, sees_gold}
@@ -39,9 +39,9 @@ use Rattle.pg_server.specs.pg_intentions.Beginning.{begin_end}
 use Rattle.pg_server.specs.pg_intentions.Requests.{ask_all, asks}
 use Rattle.pg_server.specs.declared.input.Input.TheVariants as input
 use Rattle.pg_server.specs.Local.{Effect, closed, effect, finished, intended, sent_again, settled, without_sources, without_volatile}
-use Rattle.pg_call.specs.declared.refusal.Refusal.TheVariants.{ClockEnd}
-use Rattle.pg_call.specs.declared.reply.Reply.{Reply}
-use Rattle.pg_call.specs.declared.reply.Reply.TheVariants as reply
+use Rattle.pg_server.specs.pg_pieces.pg_call.declared.refusal.Refusal.TheVariants.{ClockEnd}
+use Rattle.pg_server.specs.pg_pieces.pg_call.declared.reply.Reply.{Reply}
+use Rattle.pg_server.specs.pg_pieces.pg_call.declared.reply.Reply.TheVariants as reply
 use Rattle.pg_run.specs.Golds.{FullSeeGold}
 use Rattle.pg_run.specs.Laws.{AtEach, IsInOrder}
 use Rattle.pg_run.specs.Run.{World, effect_entry, effect_step, idle_step, run, why_void}

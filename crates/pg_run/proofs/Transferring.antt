@@ -12,16 +12,16 @@ use Rattle.pg_content.specs.Content.{head_at}
 use Rattle.pg_delta.specs.declared.delta.KeptDelta.{KeptDelta}
 use Rattle.pg_delta.specs.Taking.{delta_to}
 use Rattle.pg_edges.specs.declared.key.Key.TheVariants as key
-use Rattle.pg_msg.specs.declared.message.Delta.{Delta}
-use Rattle.pg_msg.specs.declared.message.Ends.{Ends}
-use Rattle.pg_msg.specs.declared.message.Message.TheVariants as message
-use Rattle.pg_msg.specs.declared.message.Piece.{Piece}
-use Rattle.pg_msg.specs.declared.message.Wanted.{Wanted}
-use Rattle.pg_msg.specs.declared.work.Work.{Work}
-use Rattle.pg_msg.specs.Ends.{back}
+use Rattle.pg_server.specs.pg_pieces.pg_msg.declared.message.Delta.{Delta}
+use Rattle.pg_server.specs.pg_pieces.pg_msg.declared.message.Ends.{Ends}
+use Rattle.pg_server.specs.pg_pieces.pg_msg.declared.message.Message.TheVariants as message
+use Rattle.pg_server.specs.pg_pieces.pg_msg.declared.message.Piece.{Piece}
+use Rattle.pg_server.specs.pg_pieces.pg_msg.declared.message.Wanted.{Wanted}
+use Rattle.pg_server.specs.pg_pieces.pg_msg.declared.work.Work.{Work}
+use Rattle.pg_server.specs.pg_pieces.pg_msg.Ends.{back}
 use Rattle.pg_patch.specs.Ranges.{RangesValue}
-use Rattle.pg_store.specs.declared.store.Store.{Store}
-use Rattle.pg_store.specs.Store.{keep_delta, replica_of, take_version}
+use Rattle.pg_server.specs.pg_pieces.pg_store.declared.store.Store.{Store}
+use Rattle.pg_server.specs.pg_pieces.pg_store.Store.{keep_delta, replica_of, take_version}
 use Rattle.pg_server.specs.pg_pieces.declared.accepting.EdgeUse.TheVariants as manner
 use Rattle.pg_server.specs.pg_pieces.Accepting.{accept}
 use Rattle.pg_server.specs.pg_pieces.Done.{Done, idle}

@@ -14,24 +14,24 @@ use Rattle.pg_base.specs.Id.{file_cmp, is_same_file}
 use Rattle.pg_base.proofs.Orders.{is_same_file-refl}
 use Rattle.pg_edges.specs.declared.edge.Edge.{Edge}
 use Rattle.pg_edges.specs.Edges.{AscendFrom, peers}
-use Rattle.pg_msg.specs.declared.message.Message.TheVariants as message
-use Rattle.pg_msg.specs.declared.message.Sent.{Sent}
-use Rattle.pg_msg.specs.declared.work.Work.{Work}
-use Rattle.pg_msg.specs.Work.{new_work}
-use Rattle.pg_names.specs.declared.attributes.Attributes.{Attributes}
-use Rattle.pg_names.specs.Names.{InodeValue, is_full_of, known, own_of}
-use Rattle.pg_house.specs.Facts.{is_among}
-use Rattle.pg_house.specs.Work.{is_root}
-use Rattle.pg_house.proofs.Counting.{among_kept, kept_dir}
-use Rattle.pg_house.proofs.Ends.{key_of_held}
+use Rattle.pg_server.specs.pg_pieces.pg_msg.declared.message.Message.TheVariants as message
+use Rattle.pg_server.specs.pg_pieces.pg_msg.declared.message.Sent.{Sent}
+use Rattle.pg_server.specs.pg_pieces.pg_msg.declared.work.Work.{Work}
+use Rattle.pg_server.specs.pg_pieces.pg_msg.Work.{new_work}
+use Rattle.pg_server.specs.pg_pieces.pg_names.declared.attributes.Attributes.{Attributes}
+use Rattle.pg_server.specs.pg_pieces.pg_names.Names.{InodeValue, is_full_of, known, own_of}
+use Rattle.pg_server.specs.pg_pieces.pg_house.Facts.{is_among}
+use Rattle.pg_server.specs.pg_pieces.pg_house.Work.{is_root}
+use Rattle.pg_server.proofs.pg_pieces.pg_house.Counting.{among_kept, kept_dir}
+use Rattle.pg_server.proofs.pg_pieces.pg_house.Ends.{key_of_held}
 use Rattle.theory_flood_pieces.specs.Whole.{AreEdges, IsWhole}
 use Rattle.theory_flood_pieces.proofs.Choices.{found_replica}
-use Rattle.pg_replica.specs.declared.replica.Replica.{Replica}
-use Rattle.pg_replica.specs.Replicas.{or_nothing}
-use Rattle.pg_store.specs.declared.store.Store.{Store}
-use Rattle.pg_store.specs.Births.{birth_of}
-use Rattle.pg_store.specs.Seen.{server_of}
-use Rattle.pg_store.specs.Store.{is_full, replica_at}
+use Rattle.pg_server.specs.pg_pieces.pg_replica.declared.replica.Replica.{Replica}
+use Rattle.pg_server.specs.pg_pieces.pg_replica.Replicas.{or_nothing}
+use Rattle.pg_server.specs.pg_pieces.pg_store.declared.store.Store.{Store}
+use Rattle.pg_server.specs.pg_pieces.pg_store.Births.{birth_of}
+use Rattle.pg_server.specs.pg_pieces.pg_store.Seen.{server_of}
+use Rattle.pg_server.specs.pg_pieces.pg_store.Store.{is_full, replica_at}
 use Rattle.pg_server.specs.pg_pieces.Posting.{sent_to}
 use Rattle.pg_server.specs.pg_cells.Ticks.{tick}
 use Rattle.pg_server.specs.pg_repair.Fetching.{ends_to}

@@ -9,10 +9,10 @@ use Rattle.pg_entries.specs.declared.cell.Cell.{Cell}
 use Rattle.pg_event.specs.declared.event.Event.{Event}
 use Rattle.theory_flood.specs.Server.{Holds}
 use Rattle.theory_flood_pieces.specs.UpTo.{IsUpTo}
-use Rattle.pg_replica.specs.declared.replica.Replica.{Replica}
-use Rattle.pg_store.specs.Cells.{cell_at}
-use Rattle.pg_store.specs.Store.{replica_at}
-use Rattle.pg_store.specs.Together.{IsOver}
+use Rattle.pg_server.specs.pg_pieces.pg_replica.declared.replica.Replica.{Replica}
+use Rattle.pg_server.specs.pg_pieces.pg_store.Cells.{cell_at}
+use Rattle.pg_server.specs.pg_pieces.pg_store.Store.{replica_at}
+use Rattle.pg_server.specs.pg_pieces.pg_store.Together.{IsOver}
 use Rattle.pg_run.specs.Laws.{AtEach}
 use Rattle.pg_run.specs.Run.{World, run}
 

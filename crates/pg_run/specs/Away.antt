@@ -4,14 +4,14 @@ use Rattle.std.specs.Prelude.{ℕ, ◌≡◌, true, false, Contains, List, Some}
 use Rattle.pg_base.specs.declared.id.FileId.{FileId}
 use Rattle.pg_base.specs.declared.id.Kind.{Kind}
 use Rattle.pg_event.specs.declared.event.Event.{Event}
-use Rattle.pg_msg.specs.declared.message.Message.{Message}
-use Rattle.pg_msg.specs.declared.message.Message.TheVariants as message
-use Rattle.pg_msg.specs.declared.message.Sent.{Sent}
-use Rattle.pg_names.specs.Names.{is_dir}
-use Rattle.pg_store.specs.declared.store.Store.{Store}
-use Rattle.pg_store.specs.declared.wishes.Wish.{Wish}
-use Rattle.pg_store.specs.Births.{wish_at}
-use Rattle.pg_store.specs.Store.{is_held}
+use Rattle.pg_server.specs.pg_pieces.pg_msg.declared.message.Message.{Message}
+use Rattle.pg_server.specs.pg_pieces.pg_msg.declared.message.Message.TheVariants as message
+use Rattle.pg_server.specs.pg_pieces.pg_msg.declared.message.Sent.{Sent}
+use Rattle.pg_server.specs.pg_pieces.pg_names.Names.{is_dir}
+use Rattle.pg_server.specs.pg_pieces.pg_store.declared.store.Store.{Store}
+use Rattle.pg_server.specs.pg_pieces.pg_store.declared.wishes.Wish.{Wish}
+use Rattle.pg_server.specs.pg_pieces.pg_store.Births.{wish_at}
+use Rattle.pg_server.specs.pg_pieces.pg_store.Store.{is_held}
 use Rattle.pg_server.specs.pg_calls.Naming.{next_id}
 use Rattle.theory_flood_pieces.specs.Whole.{PatchesAreForDirs}
 use Rattle.pg_run.specs.Journal.{mail}

@@ -5,28 +5,28 @@ use Rattle.pg_base.specs.declared.id.FileId.{FileId}
 use Rattle.pg_edges.specs.declared.edge.Edge.{Edge}
 use Rattle.pg_edges.specs.Edges.{edge_to, is_listed}
 use Rattle.pg_entries.specs.declared.entry.Entry.{Entry}
-use Rattle.pg_intent.specs.declared.intent.Intent.TheVariants as intent
-use Rattle.pg_intent.specs.declared.key.IntentKey.TheVariants as key
-use Rattle.pg_intent.specs.Intents.{intent_at}
-use Rattle.pg_msg.specs.declared.message.Ends.{Ends}
-use Rattle.pg_msg.specs.declared.message.Message.{Message}
-use Rattle.pg_msg.specs.declared.message.Message.TheVariants as message
-use Rattle.pg_msg.specs.declared.message.Packet.{Packet}
-use Rattle.pg_msg.specs.declared.message.Sent.{Sent}
+use Rattle.pg_server.specs.pg_pieces.pg_intent.declared.intent.Intent.TheVariants as intent
+use Rattle.pg_server.specs.pg_pieces.pg_intent.declared.key.IntentKey.TheVariants as key
+use Rattle.pg_server.specs.pg_pieces.pg_intent.Intents.{intent_at}
+use Rattle.pg_server.specs.pg_pieces.pg_msg.declared.message.Ends.{Ends}
+use Rattle.pg_server.specs.pg_pieces.pg_msg.declared.message.Message.{Message}
+use Rattle.pg_server.specs.pg_pieces.pg_msg.declared.message.Message.TheVariants as message
+use Rattle.pg_server.specs.pg_pieces.pg_msg.declared.message.Packet.{Packet}
+use Rattle.pg_server.specs.pg_pieces.pg_msg.declared.message.Sent.{Sent}
 use Rattle.pg_event.specs.declared.event.Event.{Event}
-use Rattle.pg_names.specs.declared.attributes.Attributes.{Attributes}
-use Rattle.pg_names.specs.Names.{cell_at, is_dir, own_at}
+use Rattle.pg_server.specs.pg_pieces.pg_names.declared.attributes.Attributes.{Attributes}
+use Rattle.pg_server.specs.pg_pieces.pg_names.Names.{cell_at, is_dir, own_at}
 use Rattle.pg_register.specs.declared.flag.Flag.{Flag}
-use Rattle.pg_replica.specs.declared.replica.Replica.{Replica}
+use Rattle.pg_server.specs.pg_pieces.pg_replica.declared.replica.Replica.{Replica}
 use Rattle.pg_server.specs.pg_cells.Cells.{fits}
 use Rattle.pg_server.specs.declared.input.Input.TheVariants as input
 use Rattle.pg_server.specs.declared.input.Input.{Input}
 use Rattle.pg_server.specs.Local.{effect, first_effect, takes_effect}
-use Rattle.pg_store.specs.declared.store.Store.{Store}
-use Rattle.pg_store.specs.declared.wishes.Wish.{Wish}
-use Rattle.pg_store.specs.Births.{is_pending, wish_at}
-use Rattle.pg_store.specs.Store.{is_held, replica_at}
-use Rattle.pg_store.specs.Together.{BirthsMove, IsOver, birth_at}
+use Rattle.pg_server.specs.pg_pieces.pg_store.declared.store.Store.{Store}
+use Rattle.pg_server.specs.pg_pieces.pg_store.declared.wishes.Wish.{Wish}
+use Rattle.pg_server.specs.pg_pieces.pg_store.Births.{is_pending, wish_at}
+use Rattle.pg_server.specs.pg_pieces.pg_store.Store.{is_held, replica_at}
+use Rattle.pg_server.specs.pg_pieces.pg_store.Together.{BirthsMove, IsOver, birth_at}
 use Rattle.pg_run.specs.Journal.{Born, mail}
 use Rattle.pg_run.specs.Laws.{AtEach, TakesIn, store_after}
 use Rattle.pg_run.specs.Run.{next, run, taking_in}

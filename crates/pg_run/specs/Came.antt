@@ -7,8 +7,8 @@ use Rattle.pg_content.specs.Content.{Among}
 use Rattle.pg_register.specs.declared.flag.Flag.{Flag}
 use Rattle.pg_register.specs.declared.place.Place.{Place}
 use Rattle.pg_event.specs.declared.event.Event.{Event}
-use Rattle.pg_store.specs.declared.store.Store.{Store}
-use Rattle.pg_store.specs.Start.{first_flags}
+use Rattle.pg_server.specs.pg_pieces.pg_store.declared.store.Store.{Store}
+use Rattle.pg_server.specs.pg_pieces.pg_store.Start.{first_flags}
 use Rattle.pg_server.specs.declared.input.Input.{Input}
 use Rattle.pg_server.specs.Local.{effect, takes_effect}
 use Rattle.pg_run.specs.Took.{Take, first_takes, is_held, stamps_taken, take_of}

@@ -8,27 +8,27 @@ use Rattle.pg_base.specs.Id.{is_same_file}
 use Rattle.pg_base.specs.declared.stamp.Stamp.{Stamp}
 use Rattle.pg_entries.specs.declared.cell.Cell.{Cell}
 use Rattle.pg_entries.specs.declared.entry.Entry.{Entry}
-use Rattle.pg_intent.specs.declared.intent.Intent.{Intent}
-use Rattle.pg_intent.specs.declared.intent.Intent.TheVariants as intent
+use Rattle.pg_server.specs.pg_pieces.pg_intent.declared.intent.Intent.{Intent}
+use Rattle.pg_server.specs.pg_pieces.pg_intent.declared.intent.Intent.TheVariants as intent
 use Rattle.pg_delta.specs.Chain.{are_same_stamps}
 use Rattle.pg_delta.specs.Taking.{stamps_of}
-use Rattle.pg_msg.specs.declared.message.Delta.{Delta}
-use Rattle.pg_msg.specs.declared.message.Ends.{Ends}
-use Rattle.pg_msg.specs.declared.message.Granted.{Granted}
-use Rattle.pg_msg.specs.declared.message.Message.{Message}
-use Rattle.pg_msg.specs.declared.message.Message.TheVariants as message
-use Rattle.pg_msg.specs.declared.message.Piece.{Piece}
-use Rattle.pg_msg.specs.Work.{new_work}
-use Rattle.pg_call.specs.declared.call.Call.{Call}
-use Rattle.pg_call.specs.declared.call.Call.TheVariants as call
-use Rattle.pg_call.specs.declared.reply.Reply.{Reply}
-use Rattle.pg_call.specs.declared.reply.Reply.TheVariants as reply
-use Rattle.pg_house.specs.Returning.{is_root}
-use Rattle.pg_names.specs.Names.{is_dir}
+use Rattle.pg_server.specs.pg_pieces.pg_msg.declared.message.Delta.{Delta}
+use Rattle.pg_server.specs.pg_pieces.pg_msg.declared.message.Ends.{Ends}
+use Rattle.pg_server.specs.pg_pieces.pg_msg.declared.message.Granted.{Granted}
+use Rattle.pg_server.specs.pg_pieces.pg_msg.declared.message.Message.{Message}
+use Rattle.pg_server.specs.pg_pieces.pg_msg.declared.message.Message.TheVariants as message
+use Rattle.pg_server.specs.pg_pieces.pg_msg.declared.message.Piece.{Piece}
+use Rattle.pg_server.specs.pg_pieces.pg_msg.Work.{new_work}
+use Rattle.pg_server.specs.pg_pieces.pg_call.declared.call.Call.{Call}
+use Rattle.pg_server.specs.pg_pieces.pg_call.declared.call.Call.TheVariants as call
+use Rattle.pg_server.specs.pg_pieces.pg_call.declared.reply.Reply.{Reply}
+use Rattle.pg_server.specs.pg_pieces.pg_call.declared.reply.Reply.TheVariants as reply
+use Rattle.pg_server.specs.pg_pieces.pg_house.Returning.{is_root}
+use Rattle.pg_server.specs.pg_pieces.pg_names.Names.{is_dir}
 use Rattle.pg_register.specs.declared.place.Place.{Place}
-use Rattle.pg_store.specs.declared.store.Store.{Store}
-use Rattle.pg_store.specs.Births.{is_pending}
-use Rattle.pg_store.specs.Store.{content_of, is_held}
+use Rattle.pg_server.specs.pg_pieces.pg_store.declared.store.Store.{Store}
+use Rattle.pg_server.specs.pg_pieces.pg_store.Births.{is_pending}
+use Rattle.pg_server.specs.pg_pieces.pg_store.Store.{content_of, is_held}
 use Rattle.pg_server.specs.pg_pieces.declared.accepting.EdgeUse.TheVariants as manner
 use Rattle.pg_server.specs.pg_pieces.Accepting.{is_accepted, is_current}
 use Rattle.pg_server.specs.pg_cells.Cells.{fits}
@@ -37,7 +37,7 @@ use Rattle.pg_server.specs.pg_calls.Forgetting.{dead_at, dirs_of, is_wanted, las
 use Rattle.pg_server.specs.pg_graph.Leaving.{goes_now}
 use Rattle.pg_server.specs.declared.input.Input.{Input}
 use Rattle.pg_server.specs.declared.input.Input.TheVariants as input
-use Rattle.pg_lookup.specs.declared.paths.LookupError.{LookupError}
+use Rattle.pg_server.specs.pg_checks.pg_lookup.declared.paths.LookupError.{LookupError}
 use Rattle.pg_server.specs.Local.{reply_to}
 use Rattle.pg_run.specs.Asking.{Asked, is_asked_at, is_asked_of}
 use Rattle.pg_run.specs.Took.{Take, entry_takes, flags_of, places_of, takes_in}

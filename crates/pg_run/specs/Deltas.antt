@@ -11,18 +11,18 @@ use Rattle.pg_delta.specs.Chain.{IsDelta}
 use Rattle.pg_delta.specs.Kept.{kept_deltas}
 use Rattle.pg_delta.specs.Taking.{delta_to}
 use Rattle.pg_event.specs.declared.event.Event.{Event}
-use Rattle.pg_msg.specs.declared.message.Delta.{Delta}
-use Rattle.pg_msg.specs.declared.message.Ends.{Ends}
-use Rattle.pg_msg.specs.declared.message.Message.{Message}
-use Rattle.pg_msg.specs.declared.message.Message.TheVariants as message
-use Rattle.pg_msg.specs.declared.message.Packet.{Packet}
-use Rattle.pg_msg.specs.declared.message.Wanted.{Wanted}
-use Rattle.pg_msg.specs.declared.update.MadeVersion.{MadeVersion}
-use Rattle.pg_msg.specs.declared.update.Update.{Update}
-use Rattle.pg_msg.specs.Ends.{back}
-use Rattle.pg_names.specs.Names.{is_dir}
+use Rattle.pg_server.specs.pg_pieces.pg_msg.declared.message.Delta.{Delta}
+use Rattle.pg_server.specs.pg_pieces.pg_msg.declared.message.Ends.{Ends}
+use Rattle.pg_server.specs.pg_pieces.pg_msg.declared.message.Message.{Message}
+use Rattle.pg_server.specs.pg_pieces.pg_msg.declared.message.Message.TheVariants as message
+use Rattle.pg_server.specs.pg_pieces.pg_msg.declared.message.Packet.{Packet}
+use Rattle.pg_server.specs.pg_pieces.pg_msg.declared.message.Wanted.{Wanted}
+use Rattle.pg_server.specs.pg_pieces.pg_msg.declared.update.MadeVersion.{MadeVersion}
+use Rattle.pg_server.specs.pg_pieces.pg_msg.declared.update.Update.{Update}
+use Rattle.pg_server.specs.pg_pieces.pg_msg.Ends.{back}
+use Rattle.pg_server.specs.pg_pieces.pg_names.Names.{is_dir}
 use Rattle.pg_patch.specs.Ranges.{RangesValue}
-use Rattle.pg_replica.specs.declared.replica.Replica.{Replica}
+use Rattle.pg_server.specs.pg_pieces.pg_replica.declared.replica.Replica.{Replica}
 use Rattle.pg_server.specs.declared.input.Input.{Input}
 use Rattle.pg_server.specs.declared.input.Input.TheVariants as input
 use Rattle.pg_server.specs.pg_pieces.declared.accepting.EdgeUse.TheVariants as manner
@@ -30,8 +30,8 @@ use Rattle.pg_server.specs.pg_pieces.Accepting.{is_accepted}
 use Rattle.pg_server.specs.pg_pieces.Posting.{sent_to}
 use Rattle.pg_server.specs.pg_transfer.Want.{most_in_piece}
 use Rattle.pg_server.specs.Local.{effect, is_heard, takes_effect}
-use Rattle.pg_store.specs.declared.store.Store.{Store}
-use Rattle.pg_store.specs.Store.{content_of, replica_at}
+use Rattle.pg_server.specs.pg_pieces.pg_store.declared.store.Store.{Store}
+use Rattle.pg_server.specs.pg_pieces.pg_store.Store.{content_of, replica_at}
 use Rattle.pg_run.specs.Asked.{goes}
 use Rattle.pg_run.specs.Asking.{Asked}
 use Rattle.pg_run.specs.Carried.{delta_carried, gone_in}

@@ -3,22 +3,22 @@ use Rattle.std.specs.Prelude.{ℕ, ◌≡◌, ◌⊎◌, ◌<◌, true, Contains
 use Rattle.pg_base.specs.declared.id.FileId.{FileId}
 use Rattle.pg_edges.specs.Edges.{is_listed}
 use Rattle.pg_event.specs.declared.event.Event.{Event}
-use Rattle.pg_intent.specs.declared.intent.Intent.TheVariants as intent
-use Rattle.pg_msg.specs.declared.message.Ends.{Ends}
-use Rattle.pg_msg.specs.declared.message.Message.TheVariants as message
-use Rattle.pg_msg.specs.declared.message.Packet.{Packet}
-use Rattle.pg_msg.specs.declared.message.Sent.{Sent}
-use Rattle.pg_msg.specs.declared.update.Update.TheVariants as update
+use Rattle.pg_server.specs.pg_pieces.pg_intent.declared.intent.Intent.TheVariants as intent
+use Rattle.pg_server.specs.pg_pieces.pg_msg.declared.message.Ends.{Ends}
+use Rattle.pg_server.specs.pg_pieces.pg_msg.declared.message.Message.TheVariants as message
+use Rattle.pg_server.specs.pg_pieces.pg_msg.declared.message.Packet.{Packet}
+use Rattle.pg_server.specs.pg_pieces.pg_msg.declared.message.Sent.{Sent}
+use Rattle.pg_server.specs.pg_pieces.pg_msg.declared.update.Update.TheVariants as update
 use Rattle.pg_register.specs.declared.flag.Flag.{Flag}
 use Rattle.pg_register.specs.Flag.{is_removed}
-use Rattle.pg_replica.specs.declared.replica.Replica.{Replica}
+use Rattle.pg_server.specs.pg_pieces.pg_replica.declared.replica.Replica.{Replica}
 use Rattle.pg_server.specs.declared.input.Input.{Input}
 use Rattle.pg_server.specs.declared.input.Input.TheVariants as input
 use Rattle.pg_server.specs.Local.{effect, takes_effect}
-use Rattle.pg_store.specs.declared.store.Store.{Store}
-use Rattle.pg_store.specs.Seen.{removed_of}
-use Rattle.pg_store.specs.Store.{replica_at}
-use Rattle.pg_store.specs.Together.{birth_at}
+use Rattle.pg_server.specs.pg_pieces.pg_store.declared.store.Store.{Store}
+use Rattle.pg_server.specs.pg_pieces.pg_store.Seen.{removed_of}
+use Rattle.pg_server.specs.pg_pieces.pg_store.Store.{replica_at}
+use Rattle.pg_server.specs.pg_pieces.pg_store.Together.{birth_at}
 use Rattle.pg_run.specs.Carried.{gone_in}
 use Rattle.pg_run.specs.Laws.{TakesIn, store_after}
 use Rattle.pg_run.specs.Run.{run}

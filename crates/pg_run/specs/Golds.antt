@@ -5,13 +5,13 @@ use Rattle.pg_register.specs.declared.flag.Flag.{Flag}
 use Rattle.pg_register.specs.Flag.{is_live}
 use Rattle.pg_edges.specs.declared.edge.Edge.{Edge}
 use Rattle.pg_event.specs.declared.event.Event.{Event}
-use Rattle.pg_intent.specs.declared.key.IntentKey.TheVariants as key
-use Rattle.pg_intent.specs.Intents.{stands}
-use Rattle.pg_names.specs.Names.{InodeValue, known}
-use Rattle.pg_replica.specs.declared.replica.Replica.{Replica}
-use Rattle.pg_store.specs.declared.store.Store.{Store}
-use Rattle.pg_store.specs.Seen.{removed_of, server_of}
-use Rattle.pg_store.specs.Store.{replica_at}
+use Rattle.pg_server.specs.pg_pieces.pg_intent.declared.key.IntentKey.TheVariants as key
+use Rattle.pg_server.specs.pg_pieces.pg_intent.Intents.{stands}
+use Rattle.pg_server.specs.pg_pieces.pg_names.Names.{InodeValue, known}
+use Rattle.pg_server.specs.pg_pieces.pg_replica.declared.replica.Replica.{Replica}
+use Rattle.pg_server.specs.pg_pieces.pg_store.declared.store.Store.{Store}
+use Rattle.pg_server.specs.pg_pieces.pg_store.Seen.{removed_of, server_of}
+use Rattle.pg_server.specs.pg_pieces.pg_store.Store.{replica_at}
 use Rattle.pg_run.specs.Laws.{AtEach, store_after}
 
 -- a live gold: its flag is raised, and its server is not removed in the server's view

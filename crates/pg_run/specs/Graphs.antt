@@ -2,8 +2,8 @@
 use Rattle.std.specs.Prelude.{ℕ, ◌≡◌, ◌⊎◌, true, List, [], ◌∷◌, Some}
 use Rattle.pg_base.specs.declared.id.FileId.{FileId}
 use Rattle.pg_edges.specs.Edges.{is_listed}
-use Rattle.pg_replica.specs.declared.replica.Replica.{Replica}
-use Rattle.pg_store.specs.Store.{replica_at}
+use Rattle.pg_server.specs.pg_pieces.pg_replica.declared.replica.Replica.{Replica}
+use Rattle.pg_server.specs.pg_pieces.pg_store.Store.{replica_at}
 use Rattle.pg_run.specs.Run.{World, is_live}
 
 -- a server holds the thing

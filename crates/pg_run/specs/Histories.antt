@@ -13,14 +13,14 @@ use Rattle.pg_delta.specs.Leading.{IsTrueDelta}
 use Rattle.pg_delta.specs.Taking.{delta_to}
 use Rattle.pg_entries.specs.declared.cell.Cell.{Cell}
 use Rattle.pg_entries.specs.declared.cell.Cell.TheVariants as cell
-use Rattle.pg_msg.specs.declared.message.Delta.{Delta}
-use Rattle.pg_msg.specs.declared.message.Message.{Message}
-use Rattle.pg_msg.specs.declared.message.Message.TheVariants as message
-use Rattle.pg_msg.specs.declared.message.Piece.{Piece}
-use Rattle.pg_msg.specs.declared.message.Sent.{Sent}
+use Rattle.pg_server.specs.pg_pieces.pg_msg.declared.message.Delta.{Delta}
+use Rattle.pg_server.specs.pg_pieces.pg_msg.declared.message.Message.{Message}
+use Rattle.pg_server.specs.pg_pieces.pg_msg.declared.message.Message.TheVariants as message
+use Rattle.pg_server.specs.pg_pieces.pg_msg.declared.message.Piece.{Piece}
+use Rattle.pg_server.specs.pg_pieces.pg_msg.declared.message.Sent.{Sent}
 use Rattle.pg_event.specs.declared.entry.Entry.{Entry}
 use Rattle.pg_event.specs.declared.event.Event.{Event}
-use Rattle.pg_store.specs.Store.{has_time, have_own_flag_at_end, is_before_clock_end}
+use Rattle.pg_server.specs.pg_pieces.pg_store.Store.{has_time, have_own_flag_at_end, is_before_clock_end}
 use Rattle.theory_bodies.specs.Book.{IsHeadOf, IsVersionOf}
 use Rattle.theory_bodies.specs.Telling.{IsSlice}
 use Rattle.pg_run.specs.Journal.{Born, made_versions, mail, versions}

@@ -7,18 +7,18 @@ use Rattle.pg_base.specs.Stamp.{UpTo}
 use Rattle.pg_entries.specs.declared.entry.Entry.{Entry}
 use Rattle.pg_entries.specs.Entry.{is_listed}
 use Rattle.pg_event.specs.declared.event.Event.{Event}
-use Rattle.pg_intent.specs.declared.intent.Intent.{Intent}
-use Rattle.pg_intent.specs.declared.intent.Intent.TheVariants as intent
-use Rattle.pg_intent.specs.declared.key.IntentKey.TheVariants as key
-use Rattle.pg_intent.specs.Intent.{target_of}
-use Rattle.pg_intent.specs.Intents.{HaveOwnKeys, intent_at, stands}
-use Rattle.pg_names.specs.declared.attributes.Attributes.{Attributes}
-use Rattle.pg_names.specs.Names.{InodeValue, cell_at, known, own_at}
+use Rattle.pg_server.specs.pg_pieces.pg_intent.declared.intent.Intent.{Intent}
+use Rattle.pg_server.specs.pg_pieces.pg_intent.declared.intent.Intent.TheVariants as intent
+use Rattle.pg_server.specs.pg_pieces.pg_intent.declared.key.IntentKey.TheVariants as key
+use Rattle.pg_server.specs.pg_pieces.pg_intent.Intent.{target_of}
+use Rattle.pg_server.specs.pg_pieces.pg_intent.Intents.{HaveOwnKeys, intent_at, stands}
+use Rattle.pg_server.specs.pg_pieces.pg_names.declared.attributes.Attributes.{Attributes}
+use Rattle.pg_server.specs.pg_pieces.pg_names.Names.{InodeValue, cell_at, known, own_at}
 use Rattle.pg_register.specs.Place.{root}
-use Rattle.pg_store.specs.declared.store.Store.{Store}
-use Rattle.pg_store.specs.Servers.{is_live_other}
-use Rattle.pg_store.specs.Store.{is_full, is_held}
-use Rattle.pg_store.specs.Together.{AreBirths, AreTogether}
+use Rattle.pg_server.specs.pg_pieces.pg_store.declared.store.Store.{Store}
+use Rattle.pg_server.specs.pg_pieces.pg_store.Servers.{is_live_other}
+use Rattle.pg_server.specs.pg_pieces.pg_store.Store.{is_full, is_held}
+use Rattle.pg_server.specs.pg_pieces.pg_store.Together.{AreBirths, AreTogether}
 use Rattle.pg_server.specs.pg_graph.Leaving.{may_still_leave}
 use Rattle.pg_server.specs.pg_intentions.Seeks.{is_seeking}
 use Rattle.pg_run.specs.Laws.{AtEach, store_after}

@@ -11,16 +11,16 @@ use Rattle.pg_entries.specs.Entry.{is_listed}
 use Rattle.std.specs.List.{IsAmong}
 use Rattle.pg_entries.specs.Shown.{shown_name}
 use Rattle.pg_event.specs.declared.event.Event.{Event}
-use Rattle.pg_msg.specs.declared.update.Update.TheVariants as update
+use Rattle.pg_server.specs.pg_pieces.pg_msg.declared.update.Update.TheVariants as update
 use Rattle.pg_server.specs.declared.input.Input.{Input}
 use Rattle.pg_event.specs.declared.quiet.Quiet.TheVariants.{Quiet}
-use Rattle.pg_names.specs.declared.attributes.Attributes.{Attributes}
-use Rattle.pg_names.specs.Names.{InodeValue, NamesValue, cell_at, known, own_at, own_or_blank}
+use Rattle.pg_server.specs.pg_pieces.pg_names.declared.attributes.Attributes.{Attributes}
+use Rattle.pg_server.specs.pg_pieces.pg_names.Names.{InodeValue, NamesValue, cell_at, known, own_at, own_or_blank}
 use Rattle.pg_content.specs.Content.{ContentValue}
-use Rattle.pg_house.specs.Facts.{NoCycle, NoDeadLists, OwnParent, Passing}
-use Rattle.pg_replica.specs.declared.replica.Replica.{Replica}
-use Rattle.pg_store.specs.declared.store.Store.{Store}
-use Rattle.pg_store.specs.Store.{replica_at}
+use Rattle.pg_server.specs.pg_pieces.pg_house.Facts.{NoCycle, NoDeadLists, OwnParent, Passing}
+use Rattle.pg_server.specs.pg_pieces.pg_replica.declared.replica.Replica.{Replica}
+use Rattle.pg_server.specs.pg_pieces.pg_store.declared.store.Store.{Store}
+use Rattle.pg_server.specs.pg_pieces.pg_store.Store.{replica_at}
 use Rattle.pg_run.specs.Asking.{Asked}
 use Rattle.pg_run.specs.Graphs.{AreConnected, AreJoined, Holds, IsConnected}
 use Rattle.pg_run.specs.Took.{Take, is_held, own_place, place_in, places_taken}

@@ -11,23 +11,23 @@ use Rattle.pg_edges.specs.Keys.{tag_in}
 use Rattle.pg_entries.specs.declared.cell.Cell.{Cell}
 use Rattle.pg_event.specs.declared.event.Event.{Event}
 use Rattle.theory_flood.specs.Server as flooding
-use Rattle.pg_house.specs.Passing.{is_update}
-use Rattle.pg_intent.specs.declared.intent.Intent.TheVariants as intent
-use Rattle.pg_msg.specs.declared.message.Ends.{Ends}
-use Rattle.pg_msg.specs.declared.message.Message.TheVariants as message
-use Rattle.pg_msg.specs.declared.message.Packet.{Packet}
-use Rattle.pg_msg.specs.declared.message.Sent.{Sent}
+use Rattle.pg_server.specs.pg_pieces.pg_house.Passing.{is_update}
+use Rattle.pg_server.specs.pg_pieces.pg_intent.declared.intent.Intent.TheVariants as intent
+use Rattle.pg_server.specs.pg_pieces.pg_msg.declared.message.Ends.{Ends}
+use Rattle.pg_server.specs.pg_pieces.pg_msg.declared.message.Message.TheVariants as message
+use Rattle.pg_server.specs.pg_pieces.pg_msg.declared.message.Packet.{Packet}
+use Rattle.pg_server.specs.pg_pieces.pg_msg.declared.message.Sent.{Sent}
 use Rattle.theory_flood_pieces.specs.UpTo.{IsUpTo}
 use Rattle.pg_register.specs.declared.flag.Flag.{Flag}
 use Rattle.pg_register.specs.Flag.{is_removed}
-use Rattle.pg_replica.specs.declared.replica.Replica.{Replica}
+use Rattle.pg_server.specs.pg_pieces.pg_replica.declared.replica.Replica.{Replica}
 use Rattle.pg_server.specs.declared.input.Input.TheVariants as input
 use Rattle.pg_server.specs.Local.{takes_effect}
-use Rattle.pg_store.specs.declared.store.Store.{Store}
-use Rattle.pg_store.specs.Cells.{cell_at}
-use Rattle.pg_store.specs.Seen.{removed_of}
-use Rattle.pg_store.specs.Store.{replica_at}
-use Rattle.pg_store.specs.Together.{IsOver}
+use Rattle.pg_server.specs.pg_pieces.pg_store.declared.store.Store.{Store}
+use Rattle.pg_server.specs.pg_pieces.pg_store.Cells.{cell_at}
+use Rattle.pg_server.specs.pg_pieces.pg_store.Seen.{removed_of}
+use Rattle.pg_server.specs.pg_pieces.pg_store.Store.{replica_at}
+use Rattle.pg_server.specs.pg_pieces.pg_store.Together.{IsOver}
 use Rattle.pg_run.specs.Carried.{gone_in}
 use Rattle.pg_run.specs.Graphs.{HasEdge, Holds}
 use Rattle.pg_run.specs.Journal.{mail}

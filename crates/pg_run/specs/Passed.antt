@@ -8,10 +8,10 @@ use Rattle.pg_base.specs.Stamp.{is_before}
 use Rattle.pg_register.specs.declared.flag.Flag.{Flag}
 use Rattle.pg_register.specs.declared.place.Place.{Place}
 use Rattle.pg_register.specs.Flag.{is_removed}
-use Rattle.pg_names.specs.Names.{is_dir}
-use Rattle.pg_msg.specs.declared.update.Update.{Update}
-use Rattle.pg_house.specs.Passing.{is_in, is_update}
-use Rattle.pg_house.specs.Returning.{is_root}
+use Rattle.pg_server.specs.pg_pieces.pg_names.Names.{is_dir}
+use Rattle.pg_server.specs.pg_pieces.pg_msg.declared.update.Update.{Update}
+use Rattle.pg_server.specs.pg_pieces.pg_house.Passing.{is_in, is_update}
+use Rattle.pg_server.specs.pg_pieces.pg_house.Returning.{is_root}
 use Rattle.pg_run.specs.Took.{Take, Taker, held, is_same_taker, latest_place, own_place, take_of}
 use Rattle.pg_run.specs.Took.Take.{Began, TookFlag, TookPlace, TookVersion}
 use Rattle.pg_run.specs.Took.Taker.{InDir, Itself}

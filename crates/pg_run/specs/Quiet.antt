@@ -1,13 +1,13 @@
 -- Whether all is done, and what a run waits for.
 use Rattle.std.specs.Prelude.{[], ℕ, Bool, true, false, ◌≡◌, ◌==◌, if◌then◌else◌, List, ◌∷◌, ◌++◌, length, map, zero, suc}
-use Rattle.pg_msg.specs.Sent.{summary}
+use Rattle.pg_server.specs.pg_pieces.pg_msg.Sent.{summary}
 use Rattle.pg_event.specs.declared.quiet.Cause.{Cause}
 use Rattle.pg_event.specs.declared.quiet.Cause.TheVariants.{Message, Owed, View}
 use Rattle.pg_event.specs.declared.quiet.Quiet.{Quiet}
 use Rattle.pg_event.specs.declared.quiet.Quiet.TheVariants as quiet
 use Rattle.pg_run.specs.Journal.{bag, removals}
 use Rattle.pg_server.specs.Owing.{owed}
-use Rattle.pg_store.specs.Seen.{view_of}
+use Rattle.pg_server.specs.pg_pieces.pg_store.Seen.{view_of}
 use Rattle.pg_run.specs.Run.{World, is_live}
 
 -- no message is under way, each live server has entered the last removal, and none owes anything:

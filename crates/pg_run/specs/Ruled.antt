@@ -9,13 +9,13 @@ use Rattle.theory_flood.specs.Server.{Slot}
 use Rattle.theory_flood.specs.Rule.{Rule}
 use Rattle.theory_flood_pieces.specs.Seen.{answering, says, saying}
 use Rattle.pg_event.specs.declared.event.Event.{Event}
-use Rattle.pg_msg.specs.declared.message.Message.{Message}
-use Rattle.pg_msg.specs.declared.message.Message.TheVariants as message
-use Rattle.pg_msg.specs.declared.message.Sent.{Sent}
+use Rattle.pg_server.specs.pg_pieces.pg_msg.declared.message.Message.{Message}
+use Rattle.pg_server.specs.pg_pieces.pg_msg.declared.message.Message.TheVariants as message
+use Rattle.pg_server.specs.pg_pieces.pg_msg.declared.message.Sent.{Sent}
 use Rattle.pg_server.specs.declared.input.Input.{Input}
 use Rattle.pg_server.specs.declared.input.Input.TheVariants as input
 use Rattle.pg_server.specs.Local.{takes_effect}
-use Rattle.pg_store.specs.Together.{IsOver, birth_at}
+use Rattle.pg_server.specs.pg_pieces.pg_store.Together.{IsOver, birth_at}
 use Rattle.pg_run.specs.Carried.{gone_in}
 use Rattle.pg_run.specs.Going.{InEvents, behind, sent_in}
 use Rattle.pg_run.specs.Journal.{mail}

@@ -2,20 +2,20 @@
 -- took, and to whom servers asked for bodies.
 use Rattle.std.specs.Prelude.{[], ℕ, ◌&&◌, ◌==◌, ◌+◌, Bool, true, false, not, nat_le, nat_eq, slice_get, zero, suc, if◌then◌else◌, List, ◌∷◌, ◌++◌, drop, length, map, Option, None, Some}
 use Rattle.std.specs.Option.{option_eq}
-use Rattle.pg_msg.specs.declared.message.Sent.{Sent}
-use Rattle.pg_msg.specs.declared.update.Update.{Update}
-use Rattle.pg_call.specs.declared.call.Call.{Call}
-use Rattle.pg_call.specs.declared.call.Call.TheVariants as call
+use Rattle.pg_server.specs.pg_pieces.pg_msg.declared.message.Sent.{Sent}
+use Rattle.pg_server.specs.pg_pieces.pg_msg.declared.update.Update.{Update}
+use Rattle.pg_server.specs.pg_pieces.pg_call.declared.call.Call.{Call}
+use Rattle.pg_server.specs.pg_pieces.pg_call.declared.call.Call.TheVariants as call
 use Rattle.pg_event.specs.declared.event.Event.{Event}
 use Rattle.pg_event.specs.declared.event.Event.TheVariants.{Call as Called, Tick, Deliver, Lose, Repeat, Restart, Remove}
 use Rattle.pg_event.specs.declared.entry.Entry.{Entry}
 use Rattle.pg_event.specs.declared.entry.VoidCause.{VoidCause}
 use Rattle.pg_event.specs.declared.entry.VoidCause.TheVariants.{Last, NoMessage, NoServer, Removed, Unremoved}
 use Rattle.theory_flood.specs.World.{after}
-use Rattle.pg_store.specs.declared.store.Store.{Store}
-use Rattle.pg_store.specs.Seen.{removed_of}
-use Rattle.pg_store.specs.Start.{first_flags}
-use Rattle.pg_store.specs.Store.{new_store}
+use Rattle.pg_server.specs.pg_pieces.pg_store.declared.store.Store.{Store}
+use Rattle.pg_server.specs.pg_pieces.pg_store.Seen.{removed_of}
+use Rattle.pg_server.specs.pg_pieces.pg_store.Start.{first_flags}
+use Rattle.pg_server.specs.pg_pieces.pg_store.Store.{new_store}
 use Rattle.pg_server.specs.declared.input.Input.{Input}
 use Rattle.pg_server.specs.declared.input.Input.TheVariants as input
 use Rattle.pg_server.specs.Local.{Effect, effect, first_effect, takes_effect}

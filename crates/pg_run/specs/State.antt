@@ -9,14 +9,14 @@ use Rattle.pg_base.specs.Id.{is_same_file}
 use Rattle.pg_content.specs.Content.{ContentValue}
 use Rattle.pg_content.specs.StandsFor.{content_of}
 use Rattle.pg_entries.specs.declared.entry.Entry.{Entry as Cell}
-use Rattle.pg_call.specs.declared.call.Call.{Call}
-use Rattle.pg_call.specs.declared.call.Call.TheVariants as call
-use Rattle.pg_call.specs.declared.reply.Reply.{Reply}
-use Rattle.pg_call.specs.declared.reply.Reply.TheVariants as reply
+use Rattle.pg_server.specs.pg_pieces.pg_call.declared.call.Call.{Call}
+use Rattle.pg_server.specs.pg_pieces.pg_call.declared.call.Call.TheVariants as call
+use Rattle.pg_server.specs.pg_pieces.pg_call.declared.reply.Reply.{Reply}
+use Rattle.pg_server.specs.pg_pieces.pg_call.declared.reply.Reply.TheVariants as reply
 use Rattle.pg_event.specs.declared.event.Event.{Event}
 use Rattle.pg_event.specs.declared.event.Event.TheVariants as event
 use Rattle.pg_event.specs.declared.entry.Entry.{Entry}
-use Rattle.pg_names.specs.declared.attributes.Attributes.{Attributes}
+use Rattle.pg_server.specs.pg_pieces.pg_names.declared.attributes.Attributes.{Attributes}
 use Rattle.pg_run.specs.Journal.{Born, versions, with_ancestors}
 use Rattle.pg_run.specs.Took.{Take, flags_in, own_place, place_in, stamps_taken}
 use Rattle.pg_run.specs.Took.Taker.{InDir, Itself}

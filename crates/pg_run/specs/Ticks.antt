@@ -15,35 +15,35 @@ use Rattle.pg_edges.specs.declared.key.Key.TheVariants as key
 use Rattle.pg_entries.specs.declared.cell.Cell.{Cell}
 use Rattle.pg_entries.specs.declared.cell.Cell.TheVariants as cell
 use Rattle.pg_entries.specs.declared.entry.Entry.{Entry as ChildEntry}
-use Rattle.pg_intent.specs.declared.intent.Intent.{Intent}
-use Rattle.pg_intent.specs.declared.intent.Intent.TheVariants as intent
-use Rattle.pg_intent.specs.Intent.{target_of}
-use Rattle.pg_msg.specs.declared.message.Message.{Message}
-use Rattle.pg_msg.specs.declared.message.Message.TheVariants as message
-use Rattle.pg_msg.specs.declared.message.Sent.{Sent}
-use Rattle.pg_msg.specs.declared.summary.Detail.{Detail}
-use Rattle.pg_msg.specs.declared.summary.Detail.TheVariants as detail
-use Rattle.pg_msg.specs.declared.summary.MessageKind.{MessageKind}
-use Rattle.pg_msg.specs.declared.summary.MessageKind.TheVariants as kind
-use Rattle.pg_msg.specs.declared.summary.Summary.{Summary}
-use Rattle.pg_msg.specs.Sent.{summary}
-use Rattle.pg_call.specs.declared.refusal.Refusal.TheVariants.{ClockEnd}
-use Rattle.pg_call.specs.declared.reply.Reply.TheVariants.{Done, Refused}
+use Rattle.pg_server.specs.pg_pieces.pg_intent.declared.intent.Intent.{Intent}
+use Rattle.pg_server.specs.pg_pieces.pg_intent.declared.intent.Intent.TheVariants as intent
+use Rattle.pg_server.specs.pg_pieces.pg_intent.Intent.{target_of}
+use Rattle.pg_server.specs.pg_pieces.pg_msg.declared.message.Message.{Message}
+use Rattle.pg_server.specs.pg_pieces.pg_msg.declared.message.Message.TheVariants as message
+use Rattle.pg_server.specs.pg_pieces.pg_msg.declared.message.Sent.{Sent}
+use Rattle.pg_server.specs.pg_pieces.pg_msg.declared.summary.Detail.{Detail}
+use Rattle.pg_server.specs.pg_pieces.pg_msg.declared.summary.Detail.TheVariants as detail
+use Rattle.pg_server.specs.pg_pieces.pg_msg.declared.summary.MessageKind.{MessageKind}
+use Rattle.pg_server.specs.pg_pieces.pg_msg.declared.summary.MessageKind.TheVariants as kind
+use Rattle.pg_server.specs.pg_pieces.pg_msg.declared.summary.Summary.{Summary}
+use Rattle.pg_server.specs.pg_pieces.pg_msg.Sent.{summary}
+use Rattle.pg_server.specs.pg_pieces.pg_call.declared.refusal.Refusal.TheVariants.{ClockEnd}
+use Rattle.pg_server.specs.pg_pieces.pg_call.declared.reply.Reply.TheVariants.{Done, Refused}
 use Rattle.pg_event.specs.declared.entry.Entry.{Entry}
 use Rattle.pg_event.specs.declared.event.Event.{Event}
 use Rattle.pg_event.specs.declared.event.Event.TheVariants.{Restart, Tick}
 use Rattle.pg_event.specs.declared.quiet.OwedKey.{OwedKey}
-use Rattle.pg_store.specs.declared.store.Store.{Store}
-use Rattle.pg_store.specs.Cells.{cell_at}
-use Rattle.pg_names.specs.declared.attributes.Attributes.{Attributes}
-use Rattle.pg_names.specs.Names.{cell_at as entry_at, own_at}
-use Rattle.pg_replica.specs.declared.replica.Replica.{Replica}
-use Rattle.pg_store.specs.Births.{birth_of}
-use Rattle.pg_store.specs.Seen.{server_of}
-use Rattle.pg_store.specs.Store.{is_full, is_before_clock_end, replica_at}
+use Rattle.pg_server.specs.pg_pieces.pg_store.declared.store.Store.{Store}
+use Rattle.pg_server.specs.pg_pieces.pg_store.Cells.{cell_at}
+use Rattle.pg_server.specs.pg_pieces.pg_names.declared.attributes.Attributes.{Attributes}
+use Rattle.pg_server.specs.pg_pieces.pg_names.Names.{cell_at as entry_at, own_at}
+use Rattle.pg_server.specs.pg_pieces.pg_replica.declared.replica.Replica.{Replica}
+use Rattle.pg_server.specs.pg_pieces.pg_store.Births.{birth_of}
+use Rattle.pg_server.specs.pg_pieces.pg_store.Seen.{server_of}
+use Rattle.pg_server.specs.pg_pieces.pg_store.Store.{is_full, is_before_clock_end, replica_at}
 use Rattle.pg_server.specs.pg_pieces.Posting.{sent_to}
 use Rattle.pg_server.specs.pg_cells.Sending.{told_as, waits}
-use Rattle.pg_house.specs.Facts.{is_among}
+use Rattle.pg_server.specs.pg_pieces.pg_house.Facts.{is_among}
 use Rattle.pg_register.specs.Place.{root}
 use Rattle.pg_server.specs.pg_graph.Walks.{edges_of}
 use Rattle.pg_server.specs.Local.{without_sources, without_volatile}

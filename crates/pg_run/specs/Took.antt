@@ -12,10 +12,10 @@ use Rattle.pg_register.specs.Place.{blank_place, newer_place, root, root_place}
 use Rattle.pg_entries.specs.declared.cell.Cell.{Cell}
 use Rattle.pg_entries.specs.declared.cell.Cell.TheVariants as cell
 use Rattle.pg_entries.specs.declared.entry.Entry.{Entry}
-use Rattle.pg_msg.specs.declared.update.Update.{Update}
-use Rattle.pg_msg.specs.declared.update.Update.TheVariants as update
-use Rattle.pg_house.specs.Facts.{is_among}
-use Rattle.pg_house.specs.Passing.{is_update}
+use Rattle.pg_server.specs.pg_pieces.pg_msg.declared.update.Update.{Update}
+use Rattle.pg_server.specs.pg_pieces.pg_msg.declared.update.Update.TheVariants as update
+use Rattle.pg_server.specs.pg_pieces.pg_house.Facts.{is_among}
+use Rattle.pg_server.specs.pg_pieces.pg_house.Passing.{is_update}
 
 -- which replica took what came of a thing: its own, or that of a directory with an entry for it
 pub data Taker : Type 0 where

@@ -4,17 +4,17 @@ use Rattle.std.specs.List.{IsAmong}
 use Rattle.pg_base.specs.declared.id.FileId.{FileId}
 use Rattle.pg_edges.specs.declared.edge.Edge.{Edge}
 use Rattle.pg_event.specs.declared.event.Event.{Event}
-use Rattle.pg_msg.specs.declared.message.Ends.{Ends}
-use Rattle.pg_msg.specs.declared.message.Message.TheVariants as message
-use Rattle.pg_msg.specs.declared.message.Sent.{Sent}
+use Rattle.pg_server.specs.pg_pieces.pg_msg.declared.message.Ends.{Ends}
+use Rattle.pg_server.specs.pg_pieces.pg_msg.declared.message.Message.TheVariants as message
+use Rattle.pg_server.specs.pg_pieces.pg_msg.declared.message.Sent.{Sent}
 use Rattle.pg_register.specs.Flag.{is_removed}
-use Rattle.pg_replica.specs.declared.replica.Replica.{Replica}
-use Rattle.pg_store.specs.declared.store.Store.{Store}
-use Rattle.pg_store.specs.declared.wishes.Wish.{Wish}
-use Rattle.pg_store.specs.Births.{wish_at}
-use Rattle.pg_store.specs.Seen.{removed_of, view_of}
-use Rattle.pg_store.specs.Servers.{is_live_other}
-use Rattle.pg_store.specs.Store.{replica_at}
+use Rattle.pg_server.specs.pg_pieces.pg_replica.declared.replica.Replica.{Replica}
+use Rattle.pg_server.specs.pg_pieces.pg_store.declared.store.Store.{Store}
+use Rattle.pg_server.specs.pg_pieces.pg_store.declared.wishes.Wish.{Wish}
+use Rattle.pg_server.specs.pg_pieces.pg_store.Births.{wish_at}
+use Rattle.pg_server.specs.pg_pieces.pg_store.Seen.{removed_of, view_of}
+use Rattle.pg_server.specs.pg_pieces.pg_store.Servers.{is_live_other}
+use Rattle.pg_server.specs.pg_pieces.pg_store.Store.{replica_at}
 use Rattle.pg_run.specs.Going.{InEvents, behind, sent_in}
 use Rattle.pg_run.specs.Journal.{mail, removals}
 use Rattle.pg_run.specs.Laws.{AtEach, store_after}

@@ -18,6 +18,7 @@ pub mod Marked
 mod Rising
 pub mod Housed
 pub mod Counted
+pub use Rattle.pg_house.proofs as pg_house
 pub use Rattle.pg_intent.proofs as pg_intent
 pub use Rattle.pg_names.proofs as pg_names
 pub use Rattle.pg_replica.proofs as pg_replica

@@ -11,6 +11,7 @@ pub mod Beginning
 pub mod Cells
 pub mod Together
 pub mod Views
+pub use Rattle.pg_house.specs as pg_house
 pub use Rattle.pg_intent.specs as pg_intent
 pub use Rattle.pg_names.specs as pg_names
 pub use Rattle.pg_replica.specs as pg_replica

@@ -1,14 +1,13 @@
 //! What a server holds: what it knows of names, and beside that a replica of each file and
 //! directory with its edges, and the content of a file.
 //!
-//! `store` has `Store`: names, replicas, notes of versions, intentions, wishes, and the numbers
-//! that the server gives out (tags, ids, births). `start` makes the first one; `taking` and
-//! `versions` take places, flags, entries and versions that come or are made; `links` makes and
-//! cuts edges; `beginning` lets replicas begin and go; `cells` reads the cell of a key; `lists`
-//! lends what stands in a directory, what lists a thing and what a peer has not acknowledged;
-//! `views` enters a view; `settling` lets the house rules run, and lends what may seek a gold
-//! replica (`seekers`) and what sends walks; `servers` says who is live and who is asked next;
-//! `wishes` has what clients asked for.
+//! `store` has `Store`: names, replicas, notes of versions, intentions, wishes, and the numbers it
+//! gives out (tags, ids, births). `start` makes the first; `taking` and `versions` take places,
+//! flags, entries and versions that come or are made; `links` makes and cuts edges; `beginning`
+//! lets replicas begin and go; `cells` reads the cell of a key; `lists` lends what stands in a
+//! directory, what lists a thing and what a peer did not acknowledge; `views` enters a view;
+//! `settling` lets the house rules run, and lends what may seek a gold (`seekers`) and what sends
+//! walks; `servers` says who is live, and who is asked next; `wishes` has what clients ask for.
 //!
 //! A change here keeps names and replicas together: what is held in one is held in the other, and
 //! what is news touches its key on every edge. No message is made or sent.
@@ -21,7 +20,7 @@
 //! removed and changes nothing else. `is_before_clock_end` tells of a number at its end.
 //!
 //! The definitions: `specs/Value`, `Store`, `Start`, `Beginning`, `Births`, `Cells`, `Links`,
-//! `Seekers`, `Servers`, `Views`, `Walkers`, `Wishes`, `Together`. The rules: docs/RULES.md.
+//! `Seekers`, `Seen`, `Servers`, `Views`, `Wishes`, `Together`. The rules: docs/RULES.md.
 //!
 //! A field more: it joins `Store`, its value and `new_store`; what a restart or a view does to it
 //! is said in `pg_server/specs/Local` and `specs/Views`.
@@ -43,6 +42,7 @@ mod views;
 mod wishes;
 
 pub use laws::{births_move, views_are_entered};
+pub use pg_house::{count_held_back, dirty_things, first_held_back, is_root, msg, note_left};
 pub use pg_intent::{Intent, IntentKey, Intents};
 pub use pg_names::{Attributes, Inode, Names, is_dir, is_same_stamp};
 pub use pg_replica::{Link, Replica};

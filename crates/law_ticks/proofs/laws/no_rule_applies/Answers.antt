@@ -1,6 +1,6 @@
-use Rattle.pg_run.proofs.StillRules.{house_still}
-use Rattle.pg_run.proofs.Ticks.{settled_is}
-use Rattle.pg_run.specs.Laws.{names_after, store_after}
+use Rattle.law_frame.proofs.pg_run.StillRules.{house_still}
+use Rattle.law_frame.proofs.pg_run.Ticks.{settled_is}
+use Rattle.law_frame.specs.pg_run.Laws.{names_after, store_after}
 use Rattle.law_ticks.proofs.laws.no_rule_applies.Goals as goal
 
 pub returns-clause-rules : goal.returns-clause-rules

@@ -2,8 +2,8 @@ use Rattle.std.proofs.Common.{◌≡◌, ◌∙◌, ap, map, subst, sym, List, �
 use Rattle.pg_node_input.specs.law_lengths.Packets.{IsAskedFew}
 use Rattle.pg_node_input.specs.law_lengths.law_spelled.Messages.{FitsInput}
 use Rattle.pg_net.specs.Net.{Datagram}
-use Rattle.pg_node_input.specs.law_lengths.pg_server.Local.{effect_of}
-use Rattle.pg_node_input.specs.law_lengths.pg_server.declared.input.Input.{Input}
+use Rattle.pg_server.specs.Local.{effect_of}
+use Rattle.pg_server.specs.declared.input.Input.{Input}
 use Rattle.pg_host.specs.Sends.{SentFirst, message_packet, packets, reply_packets, with_all}
 use Rattle.pg_host.proofs.Lists.{all_behind, first_behind, first_none}
 use Rattle.pg_host.proofs.Stepped.{packets_are}

@@ -1,5 +1,5 @@
 use Rattle.std.proofs.Common.{◌∙◌, ap, sym}
-use Rattle.pg_node_input.specs.law_lengths.pg_server.Local.{Effect}
+use Rattle.pg_server.specs.Local.{Effect}
 use Rattle.pg_host.proofs.Stepped.{effect_is, sent_to, sent_well, store_fits, told_well}
 use Rattle.pg_host.proofs.entering.take.Goals as goal
 

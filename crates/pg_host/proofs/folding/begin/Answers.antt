@@ -1,4 +1,4 @@
-use Rattle.pg_node_input.specs.law_lengths.pg_server.declared.server.Server.{Server}
+use Rattle.pg_server.specs.declared.server.Server.{Server}
 use Rattle.pg_store.specs.Store.{new_store}
 use Rattle.pg_host.proofs.Stepped.{begins_fit}
 use Rattle.pg_host.proofs.folding.begin.Goals as goal

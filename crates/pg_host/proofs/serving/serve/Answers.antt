@@ -2,7 +2,7 @@ use Rattle.std.proofs.Common.{inl, inr, refl, arith}
 use Rattle.pg_disk.proofs.Tries.{keeps_none}
 use Rattle.pg_disk.specs.Told.{given}
 use Rattle.pg_event.specs.declared.status.Status.TheVariants as status
-use Rattle.pg_node_input.specs.law_lengths.pg_server.declared.input.Input.TheVariants.{Restart}
+use Rattle.pg_server.specs.declared.input.Input.TheVariants.{Restart}
 use Rattle.pg_host.proofs.Ended.{answered_started, answered_unstarted, later_or, memory_part, net_part, runs_no_refusal, unstarted_part}
 use Rattle.pg_host.proofs.Readable.{input_read, start_read}
 use Rattle.pg_host.proofs.Refused.{no_refusal_memory, no_refusal_net}
