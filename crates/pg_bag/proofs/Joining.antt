@@ -1,9 +1,9 @@
 -- Blocks, one behind the other.
-use Rattle.std.proofs.Common.{ℕ, ◌≡◌, ◌+◌, ◌-◌, ◌<◌, ◌≤◌, ◌∙◌, List, [], ◌∷◌, ◌++◌, length, take, drop, set, get_or, refl, sym, ap, subst, zero, suc, append_assoc, arith, length-append}
+use Rattle.std.proofs.Common.{ℕ, ◌≡◌, ◌+◌, ◌-◌, ◌<◌, ◌≤◌, ◌∙◌, List, [], ◌∷◌, ◌++◌, length, take, drop, set, get_or, refl, sym, ap, subst, zero, suc, append_assoc, arith}
 use Rattle.std.specs.Prelude.{Option}
 use Rattle.std.specs.List.{remove, slice_get}
 use Rattle.std.proofs.lemmas.List.{get_or_default}
-use Rattle.std.proofs.lemmas.List.Edits.{length-remove, remove-append_left, remove-append_right}
+use Rattle.std.proofs.lemmas.List.Edits.{remove-append_left, remove-append_right}
 use Rattle.pg_bag.specs.Blocks.{joined, without, IsAt}
 
 -- an item of the second of two lists, and one of the first
@@ -127,23 +127,6 @@ pub item_at : {A : Type 0} (bs : List (List A)) (all : List A) (o : Option A) (i
     → joined bs ≡ all → IsAt bs index k offset → o ≡ slice_get (get_or bs k []) offset → o ≡ slice_get all index
 item_at bs all o index k offset view at got =
     got ∙ get_at bs index k offset at ∙ ap (λ xs. slice_get xs index) view
-
--- the count without the item
-pub index_within : {A : Type 0} (bs : List (List A)) (index k offset : ℕ) → IsAt bs index k offset → index < length (joined bs)
-index_within bs index k offset at =
-    let front = joined (take k bs) in
-    let back = joined (drop (suc k) bs) in
-    let block = get_or bs k [] in
-    let there = at.there in
-    let within = at.within in
-    let same = at.same in
-    omega (arith, ap length (joined_at bs k there), length-append front (block ++ back), length-append block back)
-
-pub count_without : {A : Type 0} (bs : List (List A)) (rest : List A) (count index k offset : ℕ) → count ≡ length (joined bs)
-    → IsAt bs index k offset → rest ≡ without bs k offset → count - 1 ≡ length rest
-count_without bs rest count index k offset e at r =
-    let lt = index_within bs index k offset at in
-    omega (arith, length-remove (joined bs) index lt, ap length (r ∙ without_at bs index k offset at))
 
 -- a block after the item left it
 pub rest_at : {A : Type 0} (bs : List (List A)) (k offset : ℕ) (b c : List A) → k < length bs → offset < length (get_or bs k [])

@@ -21,18 +21,15 @@ const FULL: usize = 512;
 pub struct Bag<T> {
     alloc: Global,
     blocks: Vec<Block<T>>,
-    count: usize,
 }
 
 impl<T> Model for Bag<T> {
-    ghost use Rattle.std.specs.Prelude.{List, ◌≡◌, length};
+    ghost use Rattle.std.specs.Prelude.{List};
     ghost use Rattle.pg_bag.specs.Blocks.{joined};
 
     ghost Value = { List T };
 
     ghost view = { λ b. joined b.blocks.items };
-
-    ghost invariant = { λ b. b.count ≡ length (joined b.blocks.items) };
 }
 
 /// In which block the item with this index stands, and how far from its front.
@@ -99,20 +96,13 @@ impl<T> Bag<T> {
         Bag {
             alloc,
             blocks: Vec::new(alloc),
-            count: 0,
         }
-    }
-
-    pub fn len(&self) -> usize
-        ensures { result ≡ length self.now }
-    {
-        self.count
     }
 
     pub fn is_empty(&self) -> bool
         ensures { result ≡ (length self.now == 0) }
     {
-        self.count == 0
+        self.front().is_none()
     }
 
     /// The item with this index, if there is one.
@@ -137,11 +127,7 @@ impl<T: Drop> Bag<T> {
         ensures ok { OnOk result (self.new ≡ self.old ++ item ∷ []) }
         ensures err { OnErr result (self.new ≡ self.old) }
     {
-        let Some(count) = self.count.checked_add(1) else {
-            return Err(AllocError);
-        };
         push_item(self.alloc, &mut self.blocks, item)?;
-        self.count = count;
         Ok(())
     }
 
@@ -152,8 +138,6 @@ impl<T: Drop> Bag<T> {
         ensures none { IfNone result (self.new ≡ self.old) }
     {
         let (block, offset) = find(self.blocks.as_slice(), index)?;
-        let item = take_item(&mut self.blocks, block, offset);
-        self.count -= 1;
-        item
+        take_item(&mut self.blocks, block, offset)
     }
 }

@@ -9,8 +9,8 @@
 //!
 //! It knows nothing of messages: the items are of any type that can be dropped.
 //!
-//! What holds (the invariant of `Bag`): the blocks joined are the list, and no block is empty or
-//! too long. Where memory runs out while an item is put, the list is as it was.
+//! What holds: the blocks joined are the list, whatever their lengths. Where memory runs out while
+//! an item is put, the list is as it was. No number of items is kept, so none comes to its end.
 //!
 //! The definitions: `specs/Blocks` (what a search by number finds). The rules: docs/RULES.md, "The
 //! bag".

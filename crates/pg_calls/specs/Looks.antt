@@ -38,9 +38,9 @@ listing dir (Some x) = listing_of x.entries dir
 abbrev pub rows_from : List Row → ℕ → List Row
 rows_from rows from = take most_names (drop from rows)
 
--- so many names in all, and those from a position on
+-- so many names in all, or the most that a reply can say, and those from a position on
 abbrev pub page : List Row → ℕ → Reply
-page rows from = reply.Names (length rows) (rows_from rows from)
+page rows from = reply.Names (min (length rows) (2 ^ 32 - 1)) (rows_from rows from)
 
 abbrev pub ls : Store → List ℕ → ℕ → Work → Answer
 ls store text from work =

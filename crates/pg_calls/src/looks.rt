@@ -48,15 +48,12 @@ fn listing(store: &Store, dir: FileId) -> Result<Items<Row>, AllocError>
     }
 }
 
-/// The number of all names, and the names from a position on. More than a reply can count are as if
-/// memory ran out.
+/// The number of all names, and the names from a position on. Where there are more than a reply can
+/// count it says so many.
 fn page(rows: Items<Row>, from: u32) -> Result<Reply, AllocError>
     ensures { IfOk result (λ r. r ≡ page rows from) }
 {
-    if rows.len() > u32::MAX as usize {
-        return Err(AllocError);
-    }
-    let total = rows.len() as u32;
+    let total = u32::try_from(rows.len()).unwrap_or(u32::MAX);
     let rows = rows_from(rows, from)?;
     Ok(Reply::Names { total, rows })
 }
