@@ -1,18 +1,13 @@
 //! The lists that a store lends, behind a few calls.
 
-use pg_base::{FileId, Kind, NodeId, Policy, SharedBytes};
-use pg_call::Call;
+use crate::servers::{OTHER, OWN, create, mkdir, says, takes};
+use pg_base::{FileId, Kind};
 use pg_edges::Key;
-use pg_msg::{Ends, Message, Packet};
+use pg_msg::{Ends, Message};
 use pg_server::{Input, Server};
 use pg_store::Store;
 use std::alloc::{AllocError, Global};
-use std::process::Abort;
 use std::test::Fail;
-
-const OWN: NodeId = 1;
-
-const OTHER: NodeId = 2;
 
 const ROOT: FileId = FileId {
     kind: Kind::Dir,
@@ -34,51 +29,48 @@ const FILE: FileId = FileId {
     number: 2,
 };
 
-fn mkdir(alloc: Global) -> Result<Input, AllocError> {
-    let path = SharedBytes::from_slice(alloc, b"/a")?;
-    let call = Call::Mkdir { path };
-    Ok(Input::Call { moment: 10, call })
+/// Whether just these stand in the thing, and just these list it.
+fn has(store: &Store, thing: FileId, children: &[FileId], holders: &[FileId]) -> bool {
+    store.children(thing) == children && store.holders(thing) == holders
 }
 
-fn create(alloc: Global) -> Result<Input, AllocError> {
-    let path = SharedBytes::from_slice(alloc, b"/a/x")?;
-    let call = Call::Create {
-        path,
-        policy: Policy::Last,
-    };
-    Ok(Input::Call { moment: 11, call })
+fn lends(store: &Store) -> bool {
+    has(store, ROOT, &[DIR], &[])
+        && has(store, DIR, &[FILE], &[ROOT])
+        && has(store, FILE, &[], &[DIR])
+        && store.unacked(OTHER).is_empty()
 }
 
-fn acknowledged(tag: u64) -> Input {
-    Input::Arrival(Packet {
-        from: OTHER,
-        view: 0,
-        message: Message::Ack {
-            ends: Ends {
-                file: ROOT,
-                sender: 1,
-                receiver: 1,
-            },
-            key: Key::Entry(DIR),
-            tag,
-        },
-    })
+/// Whether the server makes the directory and the file in it, and lends both.
+fn makes_and_lends(alloc: Global, server: &mut Server) -> Result<bool, AllocError> {
+    let made_dir = takes(server, mkdir(alloc, 10, b"/a")?);
+    let made_file = takes(server, create(alloc, 11, b"/a/x")?);
+    Ok(made_dir && made_file && lends(server.store()))
 }
 
-/// The server takes the input. What it then holds is looked at by the tests alone.
-fn take(server: &mut Server, input: Input) -> Result<(), Fail> {
-    server.step(input).ok().ok_or("step")?;
+/// The same of a server of its own.
+fn are_lent(alloc: Global) -> Result<bool, AllocError> {
+    let mut server = Server::new(alloc, OWN, 1)?;
+    makes_and_lends(alloc, &mut server)
+}
+
+// What stands in a directory, and what lists a thing.
+#[test]
+fn children_and_holders_are_lent(rt: HostRuntime) -> Result<(), Fail> {
+    assert!(rt; are_lent(rt.alloc())?);
     Ok(())
 }
 
-/// The server makes the directory, and the file in it.
-fn make(alloc: Global, server: &mut Server) -> Result<(), Fail> {
-    take(server, mkdir(alloc)?)?;
-    take(server, create(alloc)?)
-}
-
-fn are(found: &[FileId], wanted: &[FileId]) -> bool {
-    found == wanted
+fn acknowledged(tag: u64) -> Input {
+    says(Message::Ack {
+        ends: Ends {
+            file: ROOT,
+            sender: 1,
+            receiver: 1,
+        },
+        key: Key::Entry(DIR),
+        tag,
+    })
 }
 
 fn owes_the_entry(server: &Server) -> bool {
@@ -88,45 +80,42 @@ fn owes_the_entry(server: &Server) -> bool {
     }
 }
 
+/// Whether the server takes the input, and owes the directory's entry behind it.
+fn owes_behind(server: &mut Server, input: Input) -> bool {
+    takes(server, input) && owes_the_entry(server)
+}
+
 /// The tag of the directory's entry on the root's edge to the other server.
 fn tag(server: &Server) -> Option<u64> {
     let root = server.store().replica(&ROOT)?;
     root.edges.tag(OTHER, 1, Key::Entry(DIR))
 }
 
-fn lends(rt: &impl Abort, store: &Store) -> Result<(), Fail> {
-    assert!(rt; are(store.children(ROOT), &[DIR]));
-    assert!(rt; are(store.children(DIR), &[FILE]));
-    assert!(rt; are(store.children(FILE), &[]));
-    assert!(rt; are(store.holders(FILE), &[DIR]));
-    assert!(rt; are(store.holders(DIR), &[ROOT]));
-    assert!(rt; are(store.holders(ROOT), &[]));
-    assert!(rt; store.unacked(OTHER).is_empty());
-    Ok(())
+/// Whether the server owes nothing more behind the tag of the entry's cell.
+fn owes_nothing_behind_the_tag(server: &mut Server) -> bool {
+    match tag(server) {
+        Some(tag) => {
+            takes(server, acknowledged(tag)) && server.store().unacked(OTHER).is_empty()
+        }
+        None => false,
+    }
 }
 
-// What stands in a directory, and what lists a thing.
-#[test]
-fn children_and_holders_are_lent(rt: HostRuntime) -> Result<(), Fail> {
-    let mut server = Server::new(rt.alloc(), OWN, 1)?;
-    make(rt.alloc(), &mut server)?;
-    lends(&rt, server.store())
+/// Whether the server makes the directory, owes its entry, by tag 0 as well, and then no more.
+fn owes_until_it_is_told(alloc: Global, server: &mut Server) -> Result<bool, AllocError> {
+    let made = owes_behind(server, mkdir(alloc, 10, b"/a")?);
+    Ok(made && owes_behind(server, acknowledged(0)) && owes_nothing_behind_the_tag(server))
 }
 
-fn owes(rt: &impl Abort, alloc: Global, server: &mut Server) -> Result<(), Fail> {
-    take(server, mkdir(alloc)?)?;
-    assert!(rt; owes_the_entry(server));
-    take(server, acknowledged(0))?;
-    assert!(rt; owes_the_entry(server));
-    let tag = tag(server).ok_or("tag")?;
-    take(server, acknowledged(tag))?;
-    assert!(rt; server.store().unacked(OTHER).is_empty());
-    Ok(())
+/// The same of a server of its own, one of two.
+fn is_owed(alloc: Global) -> Result<bool, AllocError> {
+    let mut server = Server::new(alloc, OWN, 2)?;
+    owes_until_it_is_told(alloc, &mut server)
 }
 
 // The other server has not heard of the directory until it says so, by the tag of the entry's cell.
 #[test]
 fn what_is_owed_is_lent(rt: HostRuntime) -> Result<(), Fail> {
-    let mut server = Server::new(rt.alloc(), OWN, 2)?;
-    owes(&rt, rt.alloc(), &mut server)
+    assert!(rt; is_owed(rt.alloc())?);
+    Ok(())
 }

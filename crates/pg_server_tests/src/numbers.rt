@@ -1,18 +1,13 @@
 //! Messages with numbers as great as a message may have.
 
-use pg_base::{FileId, Kind, NodeId, Policy, Shared, SharedBytes};
-use pg_call::Call;
+use crate::servers::{OWN, create, says, takes};
+use pg_base::{FileId, Kind, Shared};
 use pg_entries::Cell;
-use pg_msg::{Ends, Message, Packet};
+use pg_msg::{Ends, Message};
 use pg_register::Flag;
 use pg_server::{Input, Server};
 use std::alloc::{AllocError, Global};
 use std::test::Fail;
-
-/// The server itself, and one that only speaks to it.
-const OWN: NodeId = 1;
-
-const OTHER: NodeId = 2;
 
 /// The first file that the server makes.
 const FILE: FileId = FileId {
@@ -20,15 +15,6 @@ const FILE: FileId = FileId {
     server: OWN,
     number: 1,
 };
-
-fn create(alloc: Global) -> Result<Input, AllocError> {
-    let path = SharedBytes::from_slice(alloc, b"/a")?;
-    let call = Call::Create {
-        path,
-        policy: Policy::Last,
-    };
-    Ok(Input::Call { moment: 5, call })
-}
 
 /// The other server says that the replica of this birth is bronze, under this number.
 fn lowers(alloc: Global, birth: u64, number: u64) -> Result<Input, AllocError> {
@@ -38,25 +24,16 @@ fn lowers(alloc: Global, birth: u64, number: u64) -> Result<Input, AllocError> {
         number,
         raised: false,
     };
-    Ok(Input::Arrival(Packet {
-        from: OTHER,
-        view: 0,
-        message: Message::Cell {
-            ends: Ends {
-                file: FILE,
-                sender: 1,
-                receiver: birth,
-            },
-            tag: 1,
-            cell: Cell::Flag(Shared::new(alloc, flag)?),
+    let cell = Cell::Flag(Shared::new(alloc, flag)?);
+    Ok(says(Message::Cell {
+        ends: Ends {
+            file: FILE,
+            sender: 1,
+            receiver: birth,
         },
+        tag: 1,
+        cell,
     }))
-}
-
-/// The server takes the input. What it then holds is looked at by the tests alone.
-fn take(server: &mut Server, input: Input) -> Result<(), Fail> {
-    server.step(input).ok().ok_or("step")?;
-    Ok(())
 }
 
 fn birth(server: &Server) -> u64 {
@@ -72,33 +49,44 @@ fn raised(server: &Server) -> Option<u64> {
     None
 }
 
-/// The server makes the file, and is told that its flag is lowered, under this number.
-fn lower(alloc: Global, server: &mut Server, number: u64) -> Result<(), Fail> {
-    take(server, create(alloc)?)?;
-    let lowered = lowers(alloc, birth(server), number)?;
-    take(server, lowered)
+/// The number of its flag when the server has made the file, and was told that its flag is lowered,
+/// under this number.
+fn raised_again(
+    alloc: Global,
+    server: &mut Server,
+    number: u64,
+) -> Result<Option<u64>, AllocError> {
+    let made = takes(server, create(alloc, 5, b"/a")?);
+    let lowered = takes(server, lowers(alloc, birth(server), number)?);
+    if made && lowered {
+        return Ok(raised(server));
+    }
+    Ok(None)
 }
 
-/// What the server's flag is then.
-fn raised_behind(alloc: Global, number: u64) -> Result<Option<u64>, Fail> {
+/// The same of a server of its own, one of two.
+fn raised_behind(alloc: Global, number: u64) -> Result<Option<u64>, AllocError> {
     let mut server = Server::new(alloc, OWN, 2)?;
-    lower(alloc, &mut server, number)?;
-    Ok(raised(&server))
+    raised_again(alloc, &mut server, number)
+}
+
+/// Whether the server raises its flag under this number behind that one.
+fn raises(alloc: Global, number: u64, expected: u64) -> Result<bool, AllocError> {
+    Ok(raised_behind(alloc, number)? == Some(expected))
 }
 
 // Where no gold replica is known the server raises its flag, under the next number. A greater
 // number than 2^62 + 2^40 - 1 is one that no run has: the message is ignored.
 #[test]
 fn a_flag_goes_on_behind_any_number_of_a_message(rt: HostRuntime) -> Result<(), Fail> {
+    let alloc = rt.alloc();
+    let great: u64 = 1 << 62;
     let least: u64 = (1 << 62) + (1 << 40);
-    let rows: [(u64, u64); 4] = [
-        (7, 8),
-        (1 << 62, (1 << 62) + 1),
-        (least - 1, least),
-        (least, 1),
-    ];
-    for (number, expected) in rows {
-        assert!(rt; raised_behind(rt.alloc(), number)? == Some(expected));
-    }
+    assert!(rt;
+        raises(alloc, 7, 8)?
+            && raises(alloc, great, great + 1)?
+            && raises(alloc, least - 1, least)?
+            && raises(alloc, least, 1)?
+    );
     Ok(())
 }

@@ -1,7 +1,7 @@
 //! Calls that are refused where a directory is full, and where a client names another removal.
 
 use pg_base::{FileId, Kind, Policy, SharedBytes, Stamp};
-use pg_call::read_call;
+use pg_call::{Call, Reply, read_call};
 use pg_calls::do_call;
 use pg_entries::Entry;
 use pg_lookup::ROOT;
@@ -23,62 +23,90 @@ fn dir(number: u64) -> FileId {
     }
 }
 
-/// An entry of a thing that server 2 placed in this directory.
-fn entry(alloc: Global, child: FileId, parent: FileId, name: &[u8]) -> Result<Entry, AllocError> {
-    let place = Place {
+/// The live place that server 2 gave a thing in this directory.
+fn place(alloc: Global, parent: FileId, name: &[u8]) -> Result<Place, AllocError> {
+    let name = SharedBytes::from_slice(alloc, name)?;
+    Ok(Place {
         stamp: Stamp { time: 9, server: 2 },
         parent,
-        name: SharedBytes::from_slice(alloc, name)?,
+        name,
         live: true,
-    };
-    Ok(Entry {
-        child,
-        place,
-        flags: GoldFlags::new(alloc),
     })
 }
 
-/// A directory shows the thing by this name, and the server holds it.
+/// The server holds the thing, whose place is in the parent.
 fn hold(store: &mut Store, thing: FileId, parent: FileId, name: &[u8]) -> Result<(), AllocError> {
-    let alloc = store.allocator();
-    let listed = entry(alloc, thing, parent, name)?;
-    let held = entry(alloc, thing, parent, name)?;
-    let own = Attributes {
-        place: held.place,
-        flags: held.flags,
-    };
     let birth = store.draw_birth()?;
-    store.begin(thing, birth, Policy::Last, own, true)?;
-    store.take_entry(parent, listed)?;
-    Ok(())
+    let place = place(store.allocator(), parent, name)?;
+    let flags = GoldFlags::new(store.allocator());
+    let own = Attributes { place, flags };
+    store.begin(thing, birth, Policy::Last, own, true)
 }
 
-/// What the server tells a client that calls it at time 50 with these words.
-fn reply(store: &mut Store, line: &[u8]) -> Result<String, Fail> {
-    let alloc = store.allocator();
-    let mut work = Work::new(alloc, 50, 0);
-    let mut room = [b"".as_slice(); 7];
-    let count = first_words(line, &mut room);
-    let call = read_call(alloc, &room[..count])?.ok_or("call")?;
-    let reply = do_call(store, &call, &mut work)?;
-    Ok(format!(in alloc; "{reply}")?)
+/// The directory has an entry of the thing, whose place is in the parent.
+fn list(
+    store: &mut Store,
+    dir: FileId,
+    child: FileId,
+    parent: FileId,
+    name: &[u8],
+) -> Result<(), AllocError> {
+    let place = place(store.allocator(), parent, name)?;
+    let flags = GoldFlags::new(store.allocator());
+    let entry = Entry {
+        child,
+        place,
+        flags,
+    };
+    store.take_entry(dir, entry)?;
+    Ok(())
 }
 
 /// A directory gets a directory, and as many other children as it takes.
 fn fill(store: &mut Store) -> Result<(), AllocError> {
-    let alloc = store.allocator();
     hold(store, dir(1), ROOT, b"a")?;
+    list(store, ROOT, dir(1), ROOT, b"a")?;
     hold(store, dir(2), dir(1), b"b")?;
+    list(store, dir(1), dir(2), dir(1), b"b")?;
     for number in 0..4095 {
-        let other = entry(alloc, dir(10 + number), ROOT, b"x")?;
-        store.take_entry(dir(1), other)?;
+        list(store, dir(1), dir(10 + number), ROOT, b"x")?;
     }
     Ok(())
 }
 
-fn tells(rt: &impl Abort, store: &mut Store, line: &[u8], told: &str) -> Result<(), Fail> {
+/// The call of these words, if they are one.
+fn call(alloc: Global, line: &[u8]) -> Result<Option<Call>, AllocError> {
+    let mut room = [b"".as_slice(); 7];
+    let count = first_words(line, &mut room);
+    read_call(alloc, &room[..count])
+}
+
+/// What the server answers a client that calls it at time 50.
+fn answer(store: &mut Store, call: &Call) -> Result<Reply, AllocError> {
+    let mut work = Work::new(store.allocator(), 50, 0);
+    do_call(store, call, &mut work)
+}
+
+/// The same to these words.
+fn reply(store: &mut Store, line: &[u8]) -> Result<Reply, Fail> {
+    let call = call(store.allocator(), line)?.ok_or("call")?;
+    Ok(answer(store, &call)?)
+}
+
+/// The reply as it is written.
+fn written(alloc: Global, reply: &Reply) -> Result<String, Fail> {
+    Ok(format!(in alloc; "{reply}")?)
+}
+
+/// What the server tells a client that calls it at time 50 with these words.
+fn told(store: &mut Store, line: &[u8]) -> Result<String, Fail> {
     let reply = reply(store, line)?;
-    assert_eq!(rt; reply.as_str(), told);
+    written(store.allocator(), &reply)
+}
+
+fn tells(rt: &impl Abort, store: &mut Store, line: &[u8], wanted: &str) -> Result<(), Fail> {
+    let told = told(store, line)?;
+    assert!(rt; told.as_str() == wanted);
     Ok(())
 }
 
@@ -97,15 +125,11 @@ fn a_full_directory_takes_no_other_child(rt: HostRuntime) -> Result<(), Fail> {
 }
 
 fn enters_none(rt: &impl Abort, store: &mut Store) -> Result<(), Fail> {
-    for line in [
-        b"giveup 0 3".as_slice(),
-        b"giveup 2 3",
-        b"giveup 1 1",
-        b"giveup 1 4",
-    ] {
-        tells(rt, store, line, "refused 19 WrongView 0")?;
-    }
-    Ok(())
+    let refused = "refused 19 WrongView 0";
+    tells(rt, store, b"giveup 0 3", refused)?;
+    tells(rt, store, b"giveup 2 3", refused)?;
+    tells(rt, store, b"giveup 1 1", refused)?;
+    tells(rt, store, b"giveup 1 4", refused)
 }
 
 // In a run these calls are void, since nobody was removed so.
