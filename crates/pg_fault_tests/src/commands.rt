@@ -4,23 +4,106 @@
 use pg_call::Fault;
 use pg_disk::{Disk, MemoryDisk};
 use pg_event::{MeterKind, Status};
-use pg_io::{MemorySink, MemorySource};
+use pg_io::{Failed, MemorySink, MemorySource};
 use pg_meter::{Counter, Meter, Note};
 use pg_net::{Datagram, MemoryClock, MemoryNet};
 use pg_program::heed;
-use std::alloc::Global;
+use std::alloc::{AllocError, Global};
 use std::cell::Cell;
+use std::process::Abort;
 use std::rc::Rc;
 use std::test::Fail;
 
+/// All that a command meets outside, in memory.
+#[derive(Drop)]
+struct Outside {
+    source: MemorySource,
+    sink: MemorySink,
+    net: MemoryNet,
+    disk: MemoryDisk,
+    clock: MemoryClock,
+}
+
+fn add_word(alloc: Global, words: &mut Vec<String>, word: &str) -> Result<(), AllocError> {
+    words.push(String::from_str(alloc, word)?)?;
+    Ok(())
+}
+
 /// The program's name, and these words behind it.
-fn command(alloc: Global, words: &[&str]) -> Result<Vec<String>, Fail> {
+fn command(alloc: Global, words: &[&str]) -> Result<Vec<String>, AllocError> {
     let mut all = Vec::new(alloc);
-    all.push(String::from_str(alloc, "pangaea")?)?;
+    add_word(alloc, &mut all, "pangaea")?;
     for word in words {
-        all.push(String::from_str(alloc, word)?)?;
+        add_word(alloc, &mut all, word)?;
     }
     Ok(all)
+}
+
+/// These bytes, of whose reads these fail.
+fn source(alloc: Global, bytes: &[u8], failing: &[u64]) -> Result<MemorySource, AllocError> {
+    let bytes = bytes.to_vec(alloc)?;
+    Ok(MemorySource::new(bytes, failing.to_vec(alloc)?))
+}
+
+impl Outside {
+    /// Nothing comes, nothing was done, and nothing fails.
+    fn new(alloc: Global) -> Outside {
+        Outside {
+            source: MemorySource::new(Vec::new(alloc), Vec::new(alloc)),
+            sink: MemorySink::new(alloc, Vec::new(alloc)),
+            net: MemoryNet::new(alloc, Vec::new(alloc), Vec::new(alloc)),
+            disk: MemoryDisk::new(alloc, Vec::new(alloc)),
+            clock: MemoryClock::new(Vec::new(alloc), Vec::new(alloc)),
+        }
+    }
+
+    /// All is as at first.
+    fn clear(&mut self, alloc: Global) {
+        *self = Outside::new(alloc);
+    }
+
+    /// This comes in.
+    fn comes_in(&mut self, alloc: Global, input: &[u8]) -> Result<(), AllocError> {
+        self.source = source(alloc, input, &[])?;
+        Ok(())
+    }
+
+    /// This comes in, seven bytes by a read, of which these fail.
+    fn comes_in_sevens(
+        &mut self,
+        alloc: Global,
+        input: &[u8],
+        failing: &[u64],
+    ) -> Result<(), AllocError> {
+        self.source = source(alloc, input, failing)?.with_chunk(7);
+        Ok(())
+    }
+
+    /// Nothing is written yet, and seven bytes go by a write, of which these fail.
+    fn goes_in_sevens(&mut self, alloc: Global, failing: &[u64]) -> Result<(), AllocError> {
+        self.sink = MemorySink::new(alloc, failing.to_vec(alloc)?).with_chunk(7);
+        Ok(())
+    }
+
+    /// What came of the words, with these meters.
+    fn heeds(&mut self, alloc: Global, words: &Vec<String>, meters: Vec<Box<dyn Meter>>) -> Status {
+        heed(
+            alloc,
+            words,
+            &mut self.source,
+            &mut self.sink,
+            &mut self.net,
+            &mut self.disk,
+            &mut self.clock,
+            meters,
+        )
+    }
+
+    /// How these words end, with no meter.
+    fn ends(&mut self, alloc: Global, words: &[&str]) -> Result<Status, AllocError> {
+        let words = command(alloc, words)?;
+        Ok(self.heeds(alloc, &words, Vec::new(alloc)))
+    }
 }
 
 const METERED: &[u8] = b"pangaea 1 2\n\
@@ -79,114 +162,131 @@ impl Meter for Counted {
     }
 }
 
+/// One meter more, of this kind.
+fn add_meter(
+    alloc: Global,
+    meters: &mut Vec<Box<dyn Meter>>,
+    drops: &Rc<Cell<u64>>,
+    kind: MeterKind,
+) -> Result<(), Fail> {
+    let meter = Counted {
+        drops: drops.clone()?,
+        counter: Counter::new(kind),
+    };
+    meters.push(Box::new(alloc, meter)?)?;
+    Ok(())
+}
+
 /// One meter of each kind, which count their drops together.
 fn counted_meters(alloc: Global, drops: &Rc<Cell<u64>>) -> Result<Vec<Box<dyn Meter>>, Fail> {
     let mut meters: Vec<Box<dyn Meter>> = Vec::new(alloc);
     for kind in [MeterKind::Packets, MeterKind::Bodies, MeterKind::Repeats] {
-        let meter = Counted {
-            drops: drops.clone()?,
-            counter: Counter::new(kind),
-        };
-        meters.push(Box::new(alloc, meter)?)?;
+        add_meter(alloc, &mut meters, drops, kind)?;
     }
     Ok(meters)
 }
 
-/// How the words end over this input, with a sink of whose writes these fail: the status, how many
-/// meters were dropped, and whether what is written of `PLAIN` begins it.
-fn obeyed(
+/// How the words end, with meters that count their drops so.
+fn ends_counted(
     alloc: Global,
+    outside: &mut Outside,
+    words: &[&str],
+    drops: &Rc<Cell<u64>>,
+) -> Result<Status, Fail> {
+    let words = command(alloc, words)?;
+    let meters = counted_meters(alloc, drops)?;
+    Ok(outside.heeds(alloc, &words, meters))
+}
+
+/// How the words end, with a meter of each kind, and how many of these were dropped.
+fn ends_metered(
+    alloc: Global,
+    outside: &mut Outside,
+    words: &[&str],
+) -> Result<(Status, u64), Fail> {
+    let drops = Rc::new(alloc, Cell::new(0u64))?;
+    let ended = ends_counted(alloc, outside, words, &drops)?;
+    Ok((ended, drops.get()))
+}
+
+/// Words, what comes in, the writes that fail, and how that ends.
+const METERED_ENDS: [(&[&str], &[u8], &[u64], Status); 14] = [
+    (&[], METERED, &[], Status::Usage(1)),
+    (&["node", "--help"], b"", &[], Status::Done),
+    (&["--help"], b"", &[3], Status::WriteFault),
+    (&["replay"], METERED, &[], Status::Done),
+    (&["replay", "--meters"], METERED, &[], Status::Done),
+    (&["replay", "--meters"], METERED, &[3], Status::WriteFault),
+    (&["replay", "--meters"], METERED, &[18], Status::WriteFault),
+    (&["replay", "--meters"], PLAIN, &[23], Status::WriteFault),
+    (
+        &["replay", "--meters"],
+        b"pangaea 1 1\nlose 01\n",
+        &[],
+        Status::BadLine(2, Fault::Number),
+    ),
+    (&["make", "7", "2", "0"], b"", &[], Status::Done),
+    (&["soak", "7", "2", "0"], b"", &[], Status::Done),
+    (&["soak", "7", "2", "0"], b"", &[0], Status::WriteFault),
+    (
+        &["node", "1", "1", "9000", "one", "0"],
+        b"",
+        &[],
+        Status::TurnsSpent,
+    ),
+    (
+        &["call", "1", "9000", "status"],
+        b"",
+        &[],
+        Status::TurnsSpent,
+    ),
+];
+
+/// Whether the words end so over this input, with a sink of whose writes these fail, each of three
+/// meters is dropped once, and what is written of `PLAIN` begins it.
+fn drops_three(
+    alloc: Global,
+    outside: &mut Outside,
     words: &[&str],
     input: &[u8],
     failing: &[u64],
-) -> Result<(Status, u64, bool), Fail> {
-    let words = command(alloc, words)?;
-    let mut source = MemorySource::new(input.to_vec(alloc)?, Vec::new(alloc));
-    let mut sink = MemorySink::new(alloc, failing.to_vec(alloc)?).with_chunk(7);
-    let drops = Rc::new(alloc, Cell::new(0u64))?;
-    let meters = counted_meters(alloc, &drops)?;
-    let mut net = MemoryNet::new(alloc, Vec::new(alloc), Vec::new(alloc));
-    let mut disk = MemoryDisk::new(alloc, Vec::new(alloc));
-    let mut clock = MemoryClock::new(Vec::new(alloc), Vec::new(alloc));
-    let ended = heed(
-        alloc,
-        &words,
-        &mut source,
-        &mut sink,
-        &mut net,
-        &mut disk,
-        &mut clock,
-        meters,
-    );
-    Ok((ended, drops.get(), sink.bytes().starts_with(PLAIN_WRITTEN)))
+    status: Status,
+) -> Result<bool, Fail> {
+    outside.clear(alloc);
+    outside.comes_in(alloc, input)?;
+    outside.goes_in_sevens(alloc, failing)?;
+    let ends = ends_metered(alloc, outside, words)? == (status, 3);
+    // the twenty-fourth write comes behind the line of the meter that is taken off
+    Ok(ends && (input != PLAIN || outside.sink.bytes().starts_with(PLAIN_WRITTEN)))
+}
+
+fn drop_three(rt: &impl Abort, alloc: Global, outside: &mut Outside) -> Result<(), Fail> {
+    for (words, input, failing, status) in &METERED_ENDS {
+        assert!(rt; drops_three(alloc, outside, words, input, failing, *status)?);
+    }
+    Ok(())
 }
 
 /// Each meter is dropped once, however a command ends.
 #[test]
 fn drops_each_meter_once(rt: HostRuntime) -> Result<(), Fail> {
-    let rows: [(&[&str], &[u8], &[u64], Status); 14] = [
-        (&[], METERED, &[], Status::Usage(1)),
-        (&["node", "--help"], b"", &[], Status::Done),
-        (&["--help"], b"", &[3], Status::WriteFault),
-        (&["replay"], METERED, &[], Status::Done),
-        (&["replay", "--meters"], METERED, &[], Status::Done),
-        (&["replay", "--meters"], METERED, &[3], Status::WriteFault),
-        (&["replay", "--meters"], METERED, &[18], Status::WriteFault),
-        (&["replay", "--meters"], PLAIN, &[23], Status::WriteFault),
-        (
-            &["replay", "--meters"],
-            b"pangaea 1 1\nlose 01\n",
-            &[],
-            Status::BadLine(2, Fault::Number),
-        ),
-        (&["make", "7", "2", "0"], b"", &[], Status::Done),
-        (&["soak", "7", "2", "0"], b"", &[], Status::Done),
-        (&["soak", "7", "2", "0"], b"", &[0], Status::WriteFault),
-        (
-            &["node", "1", "1", "9000", "one", "0"],
-            b"",
-            &[],
-            Status::TurnsSpent,
-        ),
-        (
-            &["call", "1", "9000", "status"],
-            b"",
-            &[],
-            Status::TurnsSpent,
-        ),
-    ];
-    for (words, input, failing, status) in rows {
-        let (ended, drops, is_begun) = obeyed(rt.alloc(), words, input, failing)?;
-        assert!(rt; ended == status && drops == 3);
-        // the twenty-fourth write comes behind the line of the meter that is taken off
-        assert!(rt; input != PLAIN || is_begun);
-    }
-    Ok(())
+    let mut outside = Outside::new(rt.alloc());
+    drop_three(&rt, rt.alloc(), &mut outside)
+}
+
+/// Whether a replay of this is ended by its third read, behind fourteen bytes.
+fn ends_by_a_read(alloc: Global, outside: &mut Outside, input: &[u8]) -> Result<bool, AllocError> {
+    outside.comes_in_sevens(alloc, input, &[2])?;
+    let status = outside.ends(alloc, &["replay"])?;
+    let is_stopped = outside.source.bytes().len() + 14 == input.len();
+    Ok(status == Status::ReadFault && outside.sink.bytes().is_empty() && is_stopped)
 }
 
 /// A read that fails in mid-stream ends a replay, which has written nothing by then.
 #[test]
 fn a_third_read_fails(rt: HostRuntime) -> Result<(), Fail> {
-    let alloc = rt.alloc();
-    let words = command(alloc, &["replay"])?;
-    let mut source = MemorySource::new(PLAIN.to_vec(alloc)?, [2].to_vec(alloc)?).with_chunk(7);
-    let mut sink = MemorySink::new(alloc, Vec::new(alloc));
-    let mut net = MemoryNet::new(alloc, Vec::new(alloc), Vec::new(alloc));
-    let mut disk = MemoryDisk::new(alloc, Vec::new(alloc));
-    let mut clock = MemoryClock::new(Vec::new(alloc), Vec::new(alloc));
-    let ended = heed(
-        alloc,
-        &words,
-        &mut source,
-        &mut sink,
-        &mut net,
-        &mut disk,
-        &mut clock,
-        Vec::new(alloc),
-    );
-    assert!(rt; ended == Status::ReadFault);
-    assert!(rt; sink.bytes().is_empty());
-    assert!(rt; source.bytes().len() + 14 == PLAIN.len());
+    let mut outside = Outside::new(rt.alloc());
+    assert!(rt; ends_by_a_read(rt.alloc(), &mut outside, PLAIN)?);
     Ok(())
 }
 
@@ -220,39 +320,12 @@ const DONE: &[u8] = b"\x01";
 /// One name of one, `a`, which is d1.1.
 const NAMES: &[u8] = b"\x05\0\0\0\x01\x01\0\x01ad\0\0\0\x01\0\0\0\0\0\0\0\x01";
 
-/// A net that gives one packet of these parts, from port 700, and whose calls with these numbers
-/// fail.
-fn net_with(alloc: Global, parts: &[&[u8]], fails: &[u64]) -> Result<MemoryNet, Fail> {
-    let mut packets = Vec::new(alloc);
-    packets.push(Datagram::new(700, joined(alloc, parts)?))?;
-    Ok(MemoryNet::new(alloc, packets, fails.to_vec(alloc)?))
-}
+/// The packet that asks for `/a`, and the reply to it.
+const ONE_CALL: &[&[&[u8]]] = &[&[CALL, MKDIR]];
 
-/// A net that gives a call of these parts, and then a stop.
-fn net_and_stop(alloc: Global, parts: &[&[u8]]) -> Result<MemoryNet, Fail> {
-    let mut packets = Vec::new(alloc);
-    packets.push(Datagram::new(700, joined(alloc, parts)?))?;
-    packets.push(Datagram::new(700, joined(alloc, &[CALL_TWO, STOP])?))?;
-    Ok(MemoryNet::new(alloc, packets, Vec::new(alloc)))
-}
+const ONE_REPLY: &[&[&[u8]]] = &[&[REPLY, FIRST, MADE]];
 
-/// Whether just two packets were sent, to port 700: the first of these parts, and then that all is
-/// done.
-fn answered(alloc: Global, net: &MemoryNet, parts: &[&[u8]]) -> Result<bool, Fail> {
-    let first = joined(alloc, parts)?;
-    let second = joined(alloc, &[REPLY, SECOND, DONE])?;
-    let [one, two] = net.sent() else {
-        return Ok(false);
-    };
-    Ok(
-        one.port() == 700
-            && two.port() == 700
-            && one.bytes() == first.as_slice()
-            && two.bytes() == second.as_slice(),
-    )
-}
-
-fn joined(alloc: Global, parts: &[&[u8]]) -> Result<Vec<u8>, Fail> {
+fn joined(alloc: Global, parts: &[&[u8]]) -> Result<Vec<u8>, AllocError> {
     let mut bytes = Vec::new(alloc);
     for part in parts {
         bytes.extend_from_slice(part)?;
@@ -260,68 +333,137 @@ fn joined(alloc: Global, parts: &[&[u8]]) -> Result<Vec<u8>, Fail> {
     Ok(bytes)
 }
 
-/// Whether just one packet was sent, to this port, of these parts.
-fn sent(alloc: Global, net: &MemoryNet, port: u16, parts: &[&[u8]]) -> Result<bool, Fail> {
-    let bytes = joined(alloc, parts)?;
-    let [packet] = net.sent() else {
-        return Ok(false);
-    };
-    Ok(packet.port() == port && packet.bytes() == bytes.as_slice())
+/// Adds a packet of these parts, from port 700.
+fn add_packet(
+    alloc: Global,
+    packets: &mut Vec<Datagram>,
+    parts: &[&[u8]],
+) -> Result<(), AllocError> {
+    packets.push(Datagram::new(700, joined(alloc, parts)?))?;
+    Ok(())
 }
 
-/// How the words end over this net and an empty disk, at moment 10, and whether just this was
-/// written.
-fn ends(
-    alloc: Global,
-    words: &[&str],
-    net: &mut MemoryNet,
-    written: &[u8],
-) -> Result<(Status, bool), Fail> {
-    let mut disk = MemoryDisk::new(alloc, Vec::new(alloc));
-    ends_over(alloc, words, net, &mut disk, written)
+/// A net that gives these packets, each of these parts, and whose calls with these numbers fail.
+fn net(alloc: Global, packets: &[&[&[u8]]], failing: &[u64]) -> Result<MemoryNet, AllocError> {
+    let mut all = Vec::new(alloc);
+    for parts in packets {
+        add_packet(alloc, &mut all, parts)?;
+    }
+    Ok(MemoryNet::new(alloc, all, failing.to_vec(alloc)?))
 }
 
-/// The same over this disk.
-fn ends_over(
-    alloc: Global,
-    words: &[&str],
-    net: &mut MemoryNet,
-    disk: &mut MemoryDisk,
-    written: &[u8],
-) -> Result<(Status, bool), Fail> {
-    let words = command(alloc, words)?;
-    let mut source = MemorySource::new(Vec::new(alloc), Vec::new(alloc));
-    let mut sink = MemorySink::new(alloc, Vec::new(alloc));
-    let mut moments = Vec::new(alloc);
-    moments.push(10u64)?;
-    let mut clock = MemoryClock::new(moments, Vec::new(alloc));
-    let status = heed(
-        alloc,
-        &words,
-        &mut source,
-        &mut sink,
-        net,
-        disk,
-        &mut clock,
-        Vec::new(alloc),
-    );
-    Ok((status, sink.bytes() == written))
+/// Whether the bytes are these parts.
+fn are_of(bytes: &[u8], parts: &[&[u8]]) -> bool {
+    let mut rest = bytes;
+    for part in parts {
+        match rest.strip_prefix(*part) {
+            Some(more) => rest = more,
+            None => return false,
+        }
+    }
+    rest.is_empty()
+}
+
+impl Outside {
+    /// It is moment 10, these packets come, these calls of the net fail, and nothing was sent or
+    /// written.
+    fn gets(
+        &mut self,
+        alloc: Global,
+        packets: &[&[&[u8]]],
+        failing: &[u64],
+    ) -> Result<(), AllocError> {
+        self.sink = MemorySink::new(alloc, Vec::new(alloc));
+        self.net = net(alloc, packets, failing)?;
+        self.clock = MemoryClock::new([10u64].to_vec(alloc)?, Vec::new(alloc));
+        Ok(())
+    }
+
+    /// Whether just these packets were sent, to this port, each of these parts.
+    fn has_sent(&self, port: u16, packets: &[&[&[u8]]]) -> bool {
+        let sent = self.net.sent();
+        if sent.len() != packets.len() {
+            return false;
+        }
+        for (packet, parts) in sent.iter().zip(packets) {
+            if packet.port() != port || !are_of(packet.bytes(), parts) {
+                return false;
+            }
+        }
+        true
+    }
+
+    /// Whether just this was written and just these packets were sent, to this port.
+    fn has_told(&self, written: &[u8], port: u16, packets: &[&[&[u8]]]) -> bool {
+        self.sink.bytes() == written && self.has_sent(port, packets)
+    }
+}
+
+const NODE: &[&str] = &["node", "1", "1", "9000", "n", "2"];
+
+/// Whether a node answers the one call that comes, and ends behind two takes.
+fn answers_one(alloc: Global, outside: &mut Outside) -> Result<bool, AllocError> {
+    outside.gets(alloc, ONE_CALL, &[])?;
+    let status = outside.ends(alloc, NODE)?;
+    Ok(
+        status == Status::TurnsSpent
+            && outside.has_told(b"", 700, ONE_REPLY)
+            && outside.net.bound() == Some(9001)
+            && outside.net.takes() == 2,
+    )
+}
+
+/// Whether a new node is ended by this call of the net, and sends nothing.
+fn is_cut_off(alloc: Global, outside: &mut Outside, failing: u64) -> Result<bool, AllocError> {
+    outside.clear(alloc);
+    outside.gets(alloc, ONE_CALL, &[failing])?;
+    let status = outside.ends(alloc, NODE)?;
+    Ok(status == Status::NetFault && outside.has_told(b"", 700, &[]))
+}
+
+fn answers(rt: &impl Abort, alloc: Global, outside: &mut Outside) -> Result<(), Fail> {
+    assert!(rt; answers_one(alloc, outside)?);
+    for failing in 0..3u64 {
+        assert!(rt; is_cut_off(alloc, outside, failing)?);
+    }
+    Ok(())
 }
 
 /// A node answers the one call that comes, and ends behind two takes; the calls of the net that
 /// fail end it.
 #[test]
 fn a_node_answers(rt: HostRuntime) -> Result<(), Fail> {
-    let alloc = rt.alloc();
-    let words: &[&str] = &["node", "1", "1", "9000", "n", "2"];
-    let mut net = net_with(alloc, &[CALL, MKDIR], &[])?;
-    assert!(rt; ends(alloc, words, &mut net, b"")? == (Status::TurnsSpent, true));
-    assert!(rt; net.bound() == Some(9001) && net.takes() == 2);
-    assert!(rt; sent(alloc, &net, 700, &[REPLY, FIRST, MADE])?);
-    for failing in 0..3u64 {
-        let mut net = net_with(alloc, &[CALL, MKDIR], &[failing])?;
-        assert!(rt; ends(alloc, words, &mut net, b"")? == (Status::NetFault, true));
-        assert!(rt; net.sent().is_empty());
+    let mut outside = Outside::new(rt.alloc());
+    answers(&rt, rt.alloc(), &mut outside)
+}
+
+/// Whether a call that this packet comes to writes this, ends so, and has sent what it asks.
+fn asks(
+    alloc: Global,
+    outside: &mut Outside,
+    reply: &[&[&[u8]]],
+    written: &[u8],
+    wanted: Status,
+) -> Result<bool, AllocError> {
+    outside.gets(alloc, reply, &[])?;
+    let status = outside.ends(alloc, &["call", "1", "9000", "mkdir", "/a"])?;
+    Ok(status == wanted && outside.has_told(written, 9001, ONE_CALL))
+}
+
+/// What comes, what is written, and how that ends.
+const REPLIES: [(&[&[&[u8]]], &[u8], Status); 3] = [
+    (&[&[REPLY, FIRST, MADE]], b"made d1.1\n", Status::Done),
+    (&[&[REPLY, SECOND, MADE]], b"", Status::TurnsSpent),
+    (
+        &[&[REPLY, FIRST, BAD_PATH]],
+        b"refused 1 BadPath 1\n",
+        Status::Refused(1),
+    ),
+];
+
+fn are_asked(rt: &impl Abort, alloc: Global, outside: &mut Outside) -> Result<(), Fail> {
+    for (reply, written, status) in &REPLIES {
+        assert!(rt; asks(alloc, outside, reply, written, *status)?);
     }
     Ok(())
 }
@@ -329,21 +471,41 @@ fn a_node_answers(rt: HostRuntime) -> Result<(), Fail> {
 /// A call writes the reply of its number, and ends by it.
 #[test]
 fn a_call_is_answered(rt: HostRuntime) -> Result<(), Fail> {
-    let alloc = rt.alloc();
-    let words: &[&str] = &["call", "1", "9000", "mkdir", "/a"];
-    let rows: [(&[&[u8]], &[u8], Status); 3] = [
-        (&[REPLY, FIRST, MADE], b"made d1.1\n", Status::Done),
-        (&[REPLY, SECOND, MADE], b"", Status::TurnsSpent),
-        (
-            &[REPLY, FIRST, BAD_PATH],
-            b"refused 1 BadPath 1\n",
-            Status::Refused(1),
-        ),
-    ];
-    for (parts, written, status) in rows {
-        let mut net = net_with(alloc, parts, &[])?;
-        assert!(rt; ends(alloc, words, &mut net, written)? == (status, true));
-        assert!(rt; sent(alloc, &net, 9001, &[CALL, MKDIR])?);
+    let mut outside = Outside::new(rt.alloc());
+    are_asked(&rt, rt.alloc(), &mut outside)
+}
+
+/// Words, and which of them is at fault.
+const FAULTS: [(&[&str], u64); 7] = [
+    (&["replay", "x"], 2),
+    (&["make", "7", "2"], 4),
+    (&["make", "7", "0", "5"], 3),
+    (&[], 1),
+    (&["node", "2", "1", "9000", "one", "1"], 2),
+    (&["node", "1", "1", "9000", "One", "1"], 5),
+    (&["call", "1", "9000", "mkdir"], 5),
+];
+
+/// Whether the word at this place is at fault, and no call of the net was made.
+fn is_at_fault(
+    alloc: Global,
+    outside: &mut Outside,
+    words: &[&str],
+    place: u64,
+) -> Result<bool, AllocError> {
+    outside.gets(alloc, ONE_CALL, &[])?;
+    let status = outside.ends(alloc, words)?;
+    Ok(
+        status == Status::Usage(place)
+            && outside.sink.bytes().is_empty()
+            && outside.net.bound() == None
+            && outside.net.takes() == 0,
+    )
+}
+
+fn are_at_fault(rt: &impl Abort, alloc: Global, outside: &mut Outside) -> Result<(), Fail> {
+    for (words, place) in &FAULTS {
+        assert!(rt; is_at_fault(alloc, outside, words, *place)?);
     }
     Ok(())
 }
@@ -351,87 +513,115 @@ fn a_call_is_answered(rt: HostRuntime) -> Result<(), Fail> {
 /// Words at fault touch no net and write nothing.
 #[test]
 fn words_at_fault(rt: HostRuntime) -> Result<(), Fail> {
-    let alloc = rt.alloc();
-    let rows: [(&[&str], u64); 7] = [
-        (&["replay", "x"], 2),
-        (&["make", "7", "2"], 4),
-        (&["make", "7", "0", "5"], 3),
-        (&[], 1),
-        (&["node", "2", "1", "9000", "one", "1"], 2),
-        (&["node", "1", "1", "9000", "One", "1"], 5),
-        (&["call", "1", "9000", "mkdir"], 5),
-    ];
-    for (words, place) in rows {
-        let mut net = net_with(alloc, &[CALL, MKDIR], &[])?;
-        assert!(rt; ends(alloc, words, &mut net, b"")? == (Status::Usage(place), true));
-        assert!(rt; net.bound() == None && net.takes() == 0);
-    }
-    Ok(())
+    let mut outside = Outside::new(rt.alloc());
+    are_at_fault(&rt, rt.alloc(), &mut outside)
+}
+
+/// The packets of a call and of a stop behind it, and those of the replies.
+const MKDIR_AND_STOP: &[&[&[u8]]] = &[&[CALL, MKDIR], &[CALL_TWO, STOP]];
+
+const MADE_AND_DONE: &[&[&[u8]]] = &[&[REPLY, FIRST, MADE], &[REPLY, SECOND, DONE]];
+
+const LS_AND_STOP: &[&[&[u8]]] = &[&[CALL, LS], &[CALL_TWO, STOP]];
+
+const NAMES_AND_DONE: &[&[&[u8]]] = &[&[REPLY, FIRST, NAMES], &[REPLY, SECOND, DONE]];
+
+/// Whether a node to which these packets come sends just those, and is done.
+fn answers_and_stops(
+    alloc: Global,
+    outside: &mut Outside,
+    asked: &[&[&[u8]]],
+    told: &[&[&[u8]]],
+) -> Result<bool, AllocError> {
+    outside.gets(alloc, asked, &[])?;
+    let status = outside.ends(alloc, &["node", "1", "1", "9000", "n", "9"])?;
+    Ok(status == Status::Done && outside.has_told(b"", 700, told))
+}
+
+fn starts_again(alloc: Global, outside: &mut Outside) -> Result<bool, AllocError> {
+    Ok(
+        answers_and_stops(alloc, outside, MKDIR_AND_STOP, MADE_AND_DONE)?
+            && answers_and_stops(alloc, outside, LS_AND_STOP, NAMES_AND_DONE)?,
+    )
 }
 
 /// A node that starts again on its disk has what its log keeps, and sends nothing of it again.
 #[test]
 fn a_node_starts_again(rt: HostRuntime) -> Result<(), Fail> {
-    let alloc = rt.alloc();
-    let words: &[&str] = &["node", "1", "1", "9000", "n", "9"];
-    let mut disk = MemoryDisk::new(alloc, Vec::new(alloc));
-    let mut net = net_and_stop(alloc, &[CALL, MKDIR])?;
-    assert!(rt; ends_over(alloc, words, &mut net, &mut disk, b"")? == (Status::Done, true));
-    assert!(rt; answered(alloc, &net, &[REPLY, FIRST, MADE])?);
-    let mut net = net_and_stop(alloc, &[CALL, LS])?;
-    assert!(rt; ends_over(alloc, words, &mut net, &mut disk, b"")? == (Status::Done, true));
-    assert!(rt; answered(alloc, &net, &[REPLY, FIRST, NAMES])?);
+    let mut outside = Outside::new(rt.alloc());
+    assert!(rt; starts_again(rt.alloc(), &mut outside)?);
     Ok(())
 }
 
-/// How a node of these words ends over the disk, with `mkdir /a` on its net, and whether it sent
+/// Whether a node of these words, with `mkdir /a` on its net, ends so over the disk and sends
 /// nothing.
 fn ends_alone(
     alloc: Global,
+    outside: &mut Outside,
     words: &[&str],
-    disk: &mut MemoryDisk,
-) -> Result<(Status, bool), Fail> {
-    let mut net = net_with(alloc, &[CALL, MKDIR], &[])?;
-    let (status, _) = ends_over(alloc, words, &mut net, disk, b"")?;
-    Ok((status, net.sent().is_empty()))
+    wanted: Status,
+) -> Result<bool, AllocError> {
+    outside.gets(alloc, ONE_CALL, &[])?;
+    let status = outside.ends(alloc, words)?;
+    Ok(status == wanted && outside.net.sent().is_empty())
 }
 
-/// The disk of a node that is server 1 of two, named `n`, and took nothing.
-fn begun(alloc: Global) -> Result<MemoryDisk, Fail> {
-    let mut disk = MemoryDisk::new(alloc, Vec::new(alloc));
-    let words: &[&str] = &["node", "1", "2", "9000", "n", "0"];
-    let (status, _) = ends_alone(alloc, words, &mut disk)?;
-    if status != Status::TurnsSpent {
-        return Err(Fail::from("another end"));
+/// Nodes that do not go on with the log of `n`, server 1 of two, and how they end.
+const OTHERS: [(&[&str], Status); 3] = [
+    (
+        &["node", "2", "2", "9000", "n", "5"],
+        Status::OtherLog(1, 2),
+    ),
+    (
+        &["node", "1", "3", "9000", "n", "5"],
+        Status::OtherLog(1, 2),
+    ),
+    (&["node", "2", "2", "9000", "m", "0"], Status::TurnsSpent),
+];
+
+/// Whether the log of `n` is this.
+fn has_log(disk: &mut MemoryDisk, log: &[u8]) -> Result<bool, Fail> {
+    disk.choose("n")?;
+    Ok(disk.bytes(0)?.as_slice() == log)
+}
+
+/// Other nodes leave this log of `n` as it is.
+fn leave_the_log(
+    rt: &impl Abort,
+    alloc: Global,
+    outside: &mut Outside,
+    log: &[u8],
+) -> Result<(), Fail> {
+    for (words, status) in &OTHERS {
+        assert!(rt; ends_alone(alloc, outside, words, *status)?);
     }
-    Ok(disk)
+    assert!(rt; has_log(&mut outside.disk, log)?);
+    Ok(())
+}
+
+/// The log of `n` begins with another byte.
+fn spoil(disk: &mut MemoryDisk) -> Result<(), Failed> {
+    disk.choose("n")?;
+    disk.write_at(0, 0, b"q")
+}
+
+const FIRST_OF_TWO: &[&str] = &["node", "1", "2", "9000", "n", "0"];
+
+const AGAIN_OF_TWO: &[&str] = &["node", "1", "2", "9000", "n", "5"];
+
+fn are_not_taken(rt: &impl Abort, alloc: Global, outside: &mut Outside) -> Result<(), Fail> {
+    assert!(rt; ends_alone(alloc, outside, FIRST_OF_TWO, Status::TurnsSpent)?);
+    let log = outside.disk.bytes(0)?;
+    leave_the_log(rt, alloc, outside, &log)?;
+    spoil(&mut outside.disk)?;
+    assert!(rt; ends_alone(alloc, outside, AGAIN_OF_TWO, Status::BadLog(0))?);
+    Ok(())
 }
 
 /// A log that is another's, or none at all, is told and left as it is; under another name the node
 /// begins anew.
 #[test]
 fn logs_that_are_not_taken(rt: HostRuntime) -> Result<(), Fail> {
-    let alloc = rt.alloc();
-    let mut disk = begun(alloc)?;
-    let log = disk.bytes(0)?;
-    let rows: [(&[&str], Status); 3] = [
-        (
-            &["node", "2", "2", "9000", "n", "5"],
-            Status::OtherLog(1, 2),
-        ),
-        (
-            &["node", "1", "3", "9000", "n", "5"],
-            Status::OtherLog(1, 2),
-        ),
-        (&["node", "2", "2", "9000", "m", "0"], Status::TurnsSpent),
-    ];
-    for (words, status) in rows {
-        assert!(rt; ends_alone(alloc, words, &mut disk)? == (status, true));
-    }
-    disk.choose("n").map_err(|_| Fail::from("choose"))?;
-    assert!(rt; disk.bytes(0)? == log);
-    disk.write_at(0, 0, b"q").map_err(|_| Fail::from("write"))?;
-    let words: &[&str] = &["node", "1", "2", "9000", "n", "5"];
-    assert!(rt; ends_alone(alloc, words, &mut disk)? == (Status::BadLog(0), true));
-    Ok(())
+    let mut outside = Outside::new(rt.alloc());
+    are_not_taken(&rt, rt.alloc(), &mut outside)
 }

@@ -2,10 +2,10 @@
 
 ghost use Rattle.std.specs.Prelude.{IfOk, ◌≤◌};
 
-use pg_io::{Failed, ReadAllError, Reading, Writing, read_all, write_all};
+use pg_io::{Failed, ReadAllError, Reading, Source, Writing, read_all, write_all};
+use std::alloc::Global;
 use std::io;
 use std::io::{ErrorKind, Read, Write};
-use std::test::Fail;
 
 /// A reader and writer of std that gives and takes one byte, and then fails.
 #[derive(Drop)]
@@ -41,33 +41,44 @@ impl Write for Breaking {
     }
 }
 
-#[test]
-fn reads_from_std(rt: HostRuntime) -> Result<(), Fail> {
-    let mut whole = Reading::new(b"abc".as_slice());
-    assert_eq!(rt;
-        read_all(rt.alloc(), &mut whole, 3)?.as_slice(),
-        b"abc".as_slice()
-    );
-    assert_eq!(rt; whole.faults(), 0);
-    let mut broken = Reading::new(Breaking { is_broken: false });
-    assert!(rt;
-        matches!(
-            read_all(rt.alloc(), &mut broken, 3),
-            Err(ReadAllError::Fault)
-        )
-    );
-    assert_eq!(rt; broken.faults(), 1);
-    Ok(())
+/// Whether all that comes is `abc`.
+fn gives_abc<S: Source>(alloc: Global, source: &mut S) -> bool {
+    match read_all(alloc, source, 3) {
+        Ok(bytes) => bytes.as_slice() == b"abc".as_slice(),
+        Err(_) => false,
+    }
+}
+
+fn gives_a_fault<S: Source>(alloc: Global, source: &mut S) -> bool {
+    matches!(read_all(alloc, source, 3), Err(ReadAllError::Fault))
 }
 
 #[test]
-fn writes_to_std(rt: HostRuntime) -> Result<(), Fail> {
-    let mut whole = Writing::new(Vec::new(rt.alloc()));
-    assert_eq!(rt; write_all(&mut whole, b"abc"), Ok(()));
-    assert_eq!(rt; whole.faults(), 0);
-    assert_eq!(rt; whole.into_inner().as_slice(), b"abc".as_slice());
+fn reads_from_std(rt: HostRuntime) {
+    let mut whole = Reading::new(b"abc".as_slice());
+    let mut broken = Reading::new(Breaking { is_broken: false });
+    assert!(rt;
+        gives_abc(rt.alloc(), &mut whole)
+            && whole.faults() == 0
+            && gives_a_fault(rt.alloc(), &mut broken)
+            && broken.faults() == 1
+    );
+}
+
+/// Whether a vector takes `abc`, and no failure is counted.
+fn takes_abc(alloc: Global) -> bool {
+    let mut whole = Writing::new(Vec::new(alloc));
+    let is_written = write_all(&mut whole, b"abc") == Ok(()) && whole.faults() == 0;
+    whole.into_inner().as_slice() == b"abc".as_slice() && is_written
+}
+
+/// Whether a writer that fails behind its first byte makes all fail, and is counted once.
+fn breaks() -> bool {
     let mut broken = Writing::new(Breaking { is_broken: false });
-    assert_eq!(rt; write_all(&mut broken, b"abc"), Err(Failed));
-    assert_eq!(rt; broken.faults(), 1);
-    Ok(())
+    write_all(&mut broken, b"abc") == Err(Failed) && broken.faults() == 1
+}
+
+#[test]
+fn writes_to_std(rt: HostRuntime) {
+    assert!(rt; takes_abc(rt.alloc()) && breaks());
 }
